@@ -3,8 +3,9 @@ use Rattle.std.specs.Prelude.{◌≡◌, ℕ, ◌≤◌, ◌<◌, ◌^◌, List,
 use Rattle.mesh_types.specs.declared.history.Entry.{Entry}
 
 pub record LogView : Type 0 where
-  -- all entries so far, and how many of them were taken
+  -- all entries so far, behind each the word that the counter had been moved to last (0 where it hadn't been), and how many of them were taken
   pub entries : List Entry
+  pub moves : List ℕ
   pub taken : ℕ
   -- for how many entries more there is memory
   pub room : ℕ

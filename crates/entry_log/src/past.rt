@@ -1,12 +1,15 @@
-//! The entries so far. They take memory when it is made, and none as they grow: they stand in the view of a seat, of which no value is kept.
+//! The entries so far, behind each the word that the counter of sequence numbers had been moved to last. They take memory when they are made, and
+//! none as they grow: they stand in the view of a seat, of which no value is kept.
 #![tactic(auto)]
 
-ghost use Rattle.std.specs.Prelude.{◌≡◌, [], ◌∷◌, ◌++◌, IfOk};
+ghost use Rattle.std.specs.Prelude.{◌≡◌, ℕ, IfOk};
 ghost use Rattle.mesh_types.specs.declared.history.Entry.{Entry as Told};
-ghost use Rattle.entry_log.specs.Past.{noted};
+ghost use Rattle.entry_log.specs.Past.{beginning, noted};
+ghost use Rattle.seq_word.specs.Seen.{last_word, went_to};
 
 use atomic_table::{Play, Seat, Table, TableRule};
 use mesh_types::history::Entry;
+use seq_word::Keeper;
 use std::alloc::{AllocError, Global};
 use std::collections::LinkedList;
 use std::marker::{Brand, Model, PhantomData};
@@ -15,6 +18,8 @@ use std::marker::{Brand, Model, PhantomData};
 pub struct Past {
     /// The entries, in their order.
     pub entries: LinkedList<Entry>,
+    /// Behind each entry the word that the counter of sequence numbers had been moved to last, 0 where it hadn't.
+    pub moves: LinkedList<u64>,
 }
 
 /// The table has one word, and no rule: its one seat does each step, a store for one more entry.
@@ -28,15 +33,19 @@ impl TableRule<u8, Past, u8> for Log {
     ghost first = { λ _. beginning };
 }
 
-/// The entry that is added.
+/// The entry that is added, and where the counter had been moved to last.
 pub trait Added {
     ghost entry: { Told };
+
+    ghost moved: { ℕ };
 }
 
 impl Added for Brand {
     ghost use Rattle.entry_log.specs.Past.{some_entry};
 
     ghost entry = { some_entry };
+
+    ghost moved = { 0 };
 }
 
 pub struct AddsEntry<N>(PhantomData<N>);
@@ -44,10 +53,10 @@ pub struct AddsEntry<N>(PhantomData<N>);
 impl<N: Added> Play<u8, Past> for AddsEntry<N> {
     ghost use Rattle.entry_log.specs.Past.{Adds};
 
-    ghost then = { Adds N.entry };
+    ghost then = { Adds N.entry N.moved };
 }
 
-/// The table and its seat. To a contract it is the list of entries.
+/// The table and its seat. To a contract it is the list of entries, and of moves.
 #[derive(Drop)]
 pub struct Recorder {
     table: Table<u8, Past, u8, Log, Global>,
@@ -55,12 +64,12 @@ pub struct Recorder {
 }
 
 impl Model for Recorder {
-    ghost use Rattle.std.specs.Prelude.{◌≡◌, List};
-    ghost use Rattle.mesh_types.specs.declared.history.Entry.{Entry as Told};
+    ghost use Rattle.std.specs.Prelude.{◌≡◌};
+    ghost use Rattle.entry_log.specs.declared.past.Past.{Past};
 
-    ghost Value = { List Told };
+    ghost Value = { Past };
 
-    ghost view = { λ r. r.seat.me.0.entries };
+    ghost view = { λ r. r.seat.me.0 };
 
     ghost invariant = { λ r. (r.table.shared.table_id.words ≡ 1) × (r.seat.table_id ≡ r.table.shared.table_id) };
 }
@@ -68,17 +77,17 @@ impl Model for Recorder {
 impl Recorder {
     /// No entries.
     pub fn new(alloc: Global) -> Result<Self, AllocError>
-        ensures { IfOk result (λ r. r ≡ []) }
+        ensures { IfOk result (λ r. r ≡ beginning) }
     {
         let (table, seat) = Table::of_words(alloc, &[0], &0)?;
         Ok(Recorder { table, seat })
     }
 
-    /// One entry more.
-    pub fn note(&mut self, entry: &Entry)
-        ensures { self.new ≡ self.old ++ entry.now ∷ [] }
+    /// One entry more, behind which the counter has been moved as this keeper knows.
+    pub fn note(&mut self, entry: &Entry, keeper: &Keeper)
+        ensures { self.new ≡ noted entry.now (last_word (went_to keeper.now.advances)) self.old }
     {
-        add_entry::<Brand>(&self.table, &mut self.seat, entry);
+        add_entry::<Brand>(&self.table, &mut self.seat, entry, keeper);
     }
 }
 
@@ -86,14 +95,17 @@ fn add_entry<N: Added>(
     table: &Table<u8, Past, u8, Log, Global>,
     seat: &mut Seat<u8, Past>,
     entry: &Entry,
+    keeper: &Keeper,
 )
     requires entry { entry.now ≡ N.entry }
+    requires moved { last_word (went_to keeper.now.advances) ≡ N.moved }
     requires word { table.now.shared.table_id.words ≡ 1 }
     requires seat { seat.old.table_id ≡ table.now.shared.table_id }
     ensures seat { seat.new.table_id ≡ seat.old.table_id }
-    ensures noted { seat.new.me.0 ≡ noted entry.now seat.old.me.0 }
+    ensures noted { seat.new.me.0 ≡ noted entry.now (last_word (went_to keeper.now.advances)) seat.old.me.0 }
 {
-    // The entry stands in the clauses alone.
+    // They stand in the clauses alone.
     let _ = entry;
+    let _ = keeper;
     table.shared.store::<AddsEntry<N>>(seat, 0, 0);
 }

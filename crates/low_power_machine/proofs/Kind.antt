@@ -4,7 +4,7 @@ use Rattle.std.specs.List.{flat_map}
 use Rattle.std.specs.Option.{option_to_list}
 use Rattle.event_definitions.specs.History.{Insight, Past, Told}
 use Rattle.event_records.specs.Putting.{ArePuttable}
-use Rattle.flash_model.specs.Chip.{Chip, Keeps, Setting}
+use Rattle.flash_model.specs.Chip.{Chip, Keeps, Setting, count_of}
 use Rattle.low_power_definitions.specs.State.{after, no_friend}
 use Rattle.low_power_machine.proofs.Recording.{record_kept}
 use Rattle.low_power_machine.specs.Memory.{IsFitFor}
@@ -15,7 +15,8 @@ use Rattle.low_power_machine.specs.declared.plan.Plan.{Plan}
 use Rattle.low_power_role.specs.Laws.{StateGoesOn}
 use Rattle.low_power_role.specs.Role.{jobs_of, jobs_under, low_power_role, stores}
 use Rattle.low_power_role.specs.State.{event_calls, life_state, state_of}
-use Rattle.machine_contract.specs.Moved.{rises, went_to}
+use Rattle.machine_contract.specs.Moves.{rises}
+use Rattle.seq_word.specs.Seen.{went_to}
 use Rattle.machine_contract.specs.Opening.{FlashFound}
 use Rattle.machine_contract.specs.Standing.{past_now}
 use Rattle.machine_contract.specs.declared.answers.Hand.TheVariants as H
@@ -124,9 +125,9 @@ module _ (law : KeptLaw) (goes : StateGoesOn) (m : LowPowerNode) (event : Event)
       → IsMeaningOf ((past_now low_power_role over s.life.told m.fills).records ++ records_by plan.answer) r.store.persist
       → IsPublished r.store r.keeper
       → went_to r.keeper.advances ≡ went_to m.reserve.keeper.advances ++ rises (config_in m.reserve.store.persist) (records_by plan.answer)
-      → Keeps old new → CostsAndUses m.reserve.store.journal.used (length (records_by plan.answer)) old.changes new.changes r.store.journal.used
+      → Keeps old new → CostsAndUses m.reserve.store.journal.used (length (records_by plan.answer)) (count_of old) (count_of new) r.store.journal.used → new.reads ≡ old.reads
       → Stands first new over (entered_by m r memory entry)
-  event_stands first old new over s runs r entry e fills few store meaning published moved keeps wear =
+  event_stands first old new over s runs r entry e fills few store meaning published moved keeps wear unread =
       let past : Past = past_now low_power_role over s.life.told m.fills in
       let h : IsBefore past m = (s.usable runs).before in
       let x : IsPlanned past event plan memory.lpn = planned past h in
@@ -136,21 +137,21 @@ module _ (law : KeptLaw) (goes : StateGoesOn) (m : LowPowerNode) (event : Event)
       (x.records ∙ ap (λ y. low_power_role.stores past y x.insight plan.answer) (sym e.is_of) ∙ ap (λ a. low_power_role.stores past entry.event x.insight a) (sym e.has))
       (before_more past h r entry e meaning) few store published
       (moved ∙ ap (λ (c : Config). went_to m.reserve.keeper.advances ++ rises c (records_by plan.answer)) h.node.meaning.config)
-      (omega (arith, s.began, keeps.later, ap (λ (y : Setting). y.faults) keeps.setting)) wear
+      (omega (arith, s.began, keeps.later, ap (λ (y : Setting). y.faults) keeps.setting)) wear unread
 
   -- where the flash failed
   pub event_stops : (first : FlashFound) (old new : Chip) (over : List StoreRecord) (s : Stands first old over m) → m.closed ≡ false → (r : Reserve)
       → IsCutIn new (past_now low_power_role over s.life.told m.fills).records (records_by plan.answer) r.keeper.mark
-      → old.faults < new.faults → Keeps old new → CostsAtMost m.reserve.store.journal.used (length (records_by plan.answer)) old.changes new.changes
+      → old.faults < new.faults → Keeps old new → CostsAtMost m.reserve.store.journal.used (length (records_by plan.answer)) (count_of old) (count_of new) → new.reads ≡ old.reads
       → Stands first new over (stopped_by m r memory (H.OfEvent event))
-  event_stops first old new over s runs r cut rose keeps wear =
+  event_stops first old new over s runs r cut rose keeps wear unread =
       let past : Past = past_now low_power_role over s.life.told m.fills in
       let h : IsBefore past m = (s.usable runs).before in
       let x : IsPlanned past event plan memory.lpn = planned past h in
       stopped_stands low_power_role IsBefore (low_power_kind law) first old new over m s runs r memory event x.insight (records_by plan.answer) x.sees
       (x.records ∙ ap (λ a. low_power_role.stores past event x.insight a) x.answer)
       (kept past h) cut
-      (omega (arith, s.began, rose, ap (λ (y : Setting). y.faults) keeps.setting)) wear
+      (omega (arith, s.began, rose, ap (λ (y : Setting). y.faults) keeps.setting)) wear unread
 
   -- the invariant
   pub event_ready : (ready : IsReadyBy IsBefore IsFitFor m) (r : Reserve) (entry : Entry) → IsEntryOf event plan r.store.persist entry

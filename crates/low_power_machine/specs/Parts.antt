@@ -11,6 +11,7 @@ machine_of reserve memory history fills closed hand elements = record {
   reserve = reserve;
   tables = memory;
   entries = history.entries;
+  moves = history.moves;
   taken = history.taken;
   fills = fills;
   closed = closed;

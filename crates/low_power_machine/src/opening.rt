@@ -2,7 +2,7 @@
 #![tactic(auto)]
 
 ghost use Rattle.std.specs.Prelude.{◌≡◌, ⊤, List, [], drop, false, IfOk};
-ghost use Rattle.low_power_machine.specs.Machine.{Stands, shown};
+ghost use Rattle.low_power_machine.specs.Machine.{Stands, advances_of, shown};
 ghost use Rattle.low_power_definitions.specs.State.{no_friend};
 ghost use Rattle.low_power_role.specs.Role.{low_power_role};
 ghost use Rattle.machine_contract.specs.Idle.{IsQuietTick};
@@ -26,7 +26,7 @@ use mesh_types::events::Event;
 use mesh_types::history::Entry;
 use node_store::Store;
 use seq_reserve::Reserve;
-use seq_word::{Dry, Keeper, Numbers};
+use seq_word::{Drawer, Dry, Keeper, Numbers};
 use std::alloc::{AllocError, Global};
 
 // Opens a life over a store that was mounted. It stands apart, so that no caller has a place for what it boxes.
@@ -104,7 +104,7 @@ impl Machine for LowPowerMachine {
 
     ghost view = { shown };
 
-    ghost advances = { λ m. m.state.value.reserve.keeper.advances };
+    ghost advances = { advances_of };
 
     ghost stands = { Stands };
 
@@ -143,6 +143,10 @@ impl Machine for LowPowerMachine {
         _early: &ReadBefore<'_, (), ()>,
     ) -> Result<Answered, Stop> {
         self.state.handle_event(n, flash, bearer, number, event)
+    }
+
+    fn inform(&mut self, n: &Numbers, d: &mut Drawer) {
+        self.state.inform(n, d);
     }
 
     fn refill<F: Flash>(&mut self, n: &Numbers, flash: &mut F, dry: Dry) -> Result<u64, Stop> {

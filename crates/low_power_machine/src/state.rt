@@ -1,7 +1,7 @@
 //! What a machine is between two calls.
 #![tactic(auto)]
 
-ghost use Rattle.std.specs.Prelude.{◌≡◌, ◌≢◌, ◌+◌, ◌<◌, ◌^◌, List, All, drop, length, true, false, Ok, Err, IfOk, OnOk, IfErr};
+ghost use Rattle.std.specs.Prelude.{◌≡◌, ◌≢◌, ◌+◌, ◌<◌, ◌^◌, ◌++◌, List, All, drop, length, true, false, Ok, Err, IfOk, OnOk, IfErr};
 ghost use Rattle.flash_model.specs.Chip.{Keeps};
 ghost use Rattle.low_power_machine.specs.Views.{Stands, shown};
 ghost use Rattle.machine_contract.specs.Opening.{FlashFound};
@@ -10,6 +10,7 @@ ghost use Rattle.machine_contract.specs.Refused.{IsRefused};
 ghost use Rattle.machine_contract.specs.View.{entry_for, with_entry};
 ghost use Rattle.record_types.specs.declared.records.StoreRecord.{StoreRecord};
 ghost use Rattle.run_definitions.specs.Order.{is_outside};
+ghost use Rattle.seq_word.specs.Seen.{last_word, went_to};
 ghost use Rattle.seq_word.specs.Word.{seq_of};
 
 use crate::memory::Memory;
@@ -26,7 +27,7 @@ use mesh_types::events::Event;
 use mesh_types::history::Entry;
 use mesh_types::told::ToldEvent;
 use seq_reserve::Reserve;
-use seq_word::{Dry, Numbers};
+use seq_word::{Drawer, Dry, Numbers};
 use std::marker::Model;
 use store_definitions::node::node_law;
 
@@ -67,12 +68,13 @@ impl LowPowerState {
         ensures ok { IfOk result
             (λ r. shown self.new
             ≡ with_entry (shown self.old) (entry_for (shown self.old) bearer number event.now r.answer r.jobs)
-            (shown self.new).mark) }
+            (last_word (went_to self.new.reserve.keeper.advances)) (shown self.new).mark) }
         ensures place { IfOk result (λ r. r.at ≡ length (shown self.old).entries) }
         ensures usable { OnOk result ((shown self.old).closed ≡ false) }
         ensures no_fault { OnOk result ((F.chip flash.new).faults ≡ (F.chip flash.old).faults) }
         ensures jobs { IfOk result (λ r. All (IsJob event.now) r.jobs) }
         ensures quiet { is_outside event.now ≡ false → IfOk result (λ r. All IsQuiet r.jobs) }
+        ensures unread { (F.chip flash.new).reads ≡ (F.chip flash.old).reads }
         ensures refused { IfErr result
             (IsRefused F.chip (Hand.OfEvent event.now) (shown self.old) (shown self.new) flash.old flash.new) }
         ensures closed { (shown self.old).closed ≡ true → result ≡ Err Stop.Closed }
@@ -104,9 +106,20 @@ impl LowPowerState {
             fills: self.fills,
         };
         let history = &mut self.history;
-        let answered = enter(history, place, event, plan.answer, jobs);
+        let keeper = &self.reserve.keeper;
+        let answered = enter(history, keeper, place, event, plan.answer, jobs);
         self.fills = 0;
         Ok(answered)
+    }
+
+    /// Tells a seat that draws where the counter has been moved to so far: `inform` of `Machine` is this call.
+    pub(crate) fn inform(&mut self, n: &Numbers, d: &mut Drawer)
+        requires made { (shown self.old).which ≡ n.now.which }
+        requires drawer_made { d.old.which ≡ n.now.which }
+        ensures same { self.new ≡ self.old }
+        ensures informed { d.new ≡ record d.old { informed = d.old.informed ++ went_to self.old.reserve.keeper.advances } }
+    {
+        self.reserve.inform(n, d);
     }
 
     /// The entries since this was called last, or since the life began (`entries`); nothing else changes (`shown`). `take_entries` of `Machine` is
@@ -145,6 +158,7 @@ impl LowPowerState {
         ensures no_fault { OnOk result ((F.chip flash.new).faults ≡ (F.chip flash.old).faults) }
         ensures closed { (shown self.old).closed ≡ true → result ≡ Err Stop.Closed }
         ensures memory { result ≢ Err Stop.Memory }
+        ensures unread { (F.chip flash.new).reads ≡ (F.chip flash.old).reads }
         ensures refused { IfErr result
             (IsRefused F.chip Hand.OfRefill (shown self.old) (shown self.new) flash.old flash.new) }
         ensures kept { (first : FlashFound) (over : List StoreRecord) → Stands first (F.chip flash.old) over self.old

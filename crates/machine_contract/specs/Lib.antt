@@ -3,6 +3,7 @@ pub mod Idle
 pub mod Opening
 pub mod View
 pub mod Standing
+pub mod Moves
 pub mod Moved
 pub mod Refused
 pub mod Started

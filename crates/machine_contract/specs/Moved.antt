@@ -1,26 +1,14 @@
 -- Where the counter of sequence numbers was moved to in a life, apart from draws.
-use Rattle.std.specs.Prelude.{◌≡◌, ℕ, ◌*◌, ◌^◌, nat_lt, if◌then◌else◌, List, [], ◌∷◌, ◌++◌, map}
-use Rattle.mesh_base.specs.IvState.{transmit_of}
+use Rattle.std.specs.Prelude.{◌≡◌, ℕ, List, [], ◌++◌, map}
 use Rattle.mesh_types.specs.declared.history.Entry.{Entry}
 use Rattle.record_types.specs.declared.records.StoreRecord.{StoreRecord}
 use Rattle.event_definitions.specs.Handling.{AreHandled}
 use Rattle.event_definitions.specs.History.{Told}
 use Rattle.event_definitions.specs.Role.{Role}
-use Rattle.store_definitions.specs.Config.{Config, changed, config_of}
+use Rattle.store_definitions.specs.Config.{config_of}
+use Rattle.seq_word.specs.Seen.{went_to}
+use Rattle.machine_contract.specs.Moves.{rises}
 use Rattle.machine_contract.specs.Standing.{past_now}
-
--- from what is stored to what is stored then: where the transmit IV Index rises, to the first word under the new one
-abbrev pub rise : Config → Config → List ℕ
-rise old new = if nat_lt (transmit_of old.iv) (transmit_of new.iv) then transmit_of new.iv * 2 ^ 25 ∷ [] else []
-
--- with records that are stored one after another
-abbrev pub rises : Config → List StoreRecord → List ℕ
-rises c [] = []
-rises c (item ∷ items) = rise c (changed c item) ++ rises (changed c item) items
-
--- the words that the counter was moved to
-abbrev pub went_to : List (ℕ × ℕ) → List ℕ
-went_to advances = map (λ (move : ℕ × ℕ). move.1) advances
 
 -- Behind these records those were stored, and with each that raised the transmit IV Index the counter was moved to the first word under the
 -- new one, and at no other time.

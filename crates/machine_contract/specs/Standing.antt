@@ -1,6 +1,6 @@
 -- What holds of a machine between two calls, of its flash, and of the records that its life opened over.
 use Rattle.std.specs.Prelude.{◌≡◌, ◌⊎◌, ℕ, ◌+◌, ◌<◌, ◌≤◌, ◌^◌, true, false, List, [], ◌∷◌, length, map, take}
-use Rattle.flash_model.specs.Chip.{Chip}
+use Rattle.flash_model.specs.Chip.{Chip, count_of}
 use Rattle.mesh_types.specs.declared.events.Event.{Event}
 use Rattle.record_types.specs.declared.records.StoreRecord.{StoreRecord}
 use Rattle.event_definitions.specs.Handling.{AreHandled, records_left}
@@ -9,9 +9,10 @@ use Rattle.run_definitions.specs.Order.{is_outside}
 use Rattle.event_definitions.specs.Role.{Role}
 use Rattle.store_definitions.specs.Config.{config_of}
 use Rattle.store_definitions.specs.Numbers.{fill_of, filled}
-use Rattle.store_definitions.specs.Wear.{CostsAtMost, IsTakenUp}
+use Rattle.store_definitions.specs.Wear.{CostsAtMost, IsTakenUp, MOUNT_READS}
 use Rattle.machine_contract.specs.declared.answers.Hand.{Hand}
 use Rattle.machine_contract.specs.declared.answers.Hand.TheVariants as H
+use Rattle.machine_contract.specs.Moves.{moves_from}
 use Rattle.machine_contract.specs.Opening.{EachRecovered, FlashFound, IsLeft, IsNodeFlash}
 use Rattle.machine_contract.specs.View.{MachineView}
 
@@ -50,16 +51,18 @@ pub record ArePaidFor (first : FlashFound) (chip : Chip) (over now : List StoreR
   pub behind : length now ≡ length over + stored
   pub used : ℕ
   pub taken_up : IsTakenUp first.now used
-  pub costs : CostsAtMost used (stored + in_hand) first.changes chip.changes
+  pub costs : CostsAtMost used (stored + in_hand) first.count (count_of chip)
 
 -- The entries so far were handled in order, from the records that the life opened over; an image recovers what they left, with the mark
 -- that is published at most; the machine is closed only where the flash failed; and since the life found the flash it made at most the program and
--- erase calls that the records cost which were stored or in hand, and a migration.
+-- erase calls that the records cost which were stored or in hand, and a migration, and at most the read calls of a mount.
 pub record IsLifeSoFar (role : Role) (IsNodeImage : List ℕ → Type 0) (first : FlashFound) (chip : Chip)
     (over : List StoreRecord) (m : MachineView) : Type 0 where
   pub told : List Told
   pub entries : map (λ t. t.entry) told ≡ m.entries
   pub handled : AreHandled role over [] told
+  -- where the counter was moved to by the records that each left
+  pub moves : m.moves ≡ moves_from role over [] told
   pub few : length m.entries < 2 ^ 32
   pub elements : m.elements ≡ (config_of over).elements
   pub node : IsNodeFlash IsNodeImage chip
@@ -70,6 +73,7 @@ pub record IsLifeSoFar (role : Role) (IsNodeImage : List ℕ → Type 0) (first 
   pub in_hand : ℕ
   pub hand : AreInHand role (past_now role over told m.fills) m.hand in_hand
   pub paid : ArePaidFor first chip over (past_now role over told m.fills).records in_hand
+  pub reads : chip.reads ≤ first.reads + MOUNT_READS
 
 -- the flash is as it was, but that it may have been given an arm
 pub record IsSameFlash (old new : Chip) : Type 0 where
@@ -78,4 +82,5 @@ pub record IsSameFlash (old new : Chip) : Type 0 where
   pub now : new.now ≡ old.now
   pub faults : new.faults ≡ old.faults
   pub began : new.setting.faults ≡ old.setting.faults
-  pub changes : new.changes ≡ old.changes
+  pub count : count_of new ≡ count_of old
+  pub reads : new.reads ≡ old.reads

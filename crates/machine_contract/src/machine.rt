@@ -9,6 +9,7 @@ ghost use Rattle.record_types.specs.declared.records.StoreRecord.{StoreRecord};
 ghost use Rattle.event_definitions.specs.History.{Past};
 ghost use Rattle.event_definitions.specs.Role.{Role};
 ghost use Rattle.run_definitions.specs.Order.{is_outside};
+ghost use Rattle.seq_word.specs.Seen.{last_word, went_to};
 ghost use Rattle.seq_word.specs.Word.{seq_of};
 ghost use Rattle.machine_contract.specs.Idle.{IsDueIn, IsIdleFor, IsQuietTick};
 ghost use Rattle.machine_contract.specs.Moved.{HasMoved};
@@ -27,7 +28,7 @@ use flash_model::Flash;
 use mesh_base::octets::Octets;
 use mesh_types::events::Event;
 use mesh_types::history::Entry;
-use seq_word::{Dry, Keeper, Numbers};
+use seq_word::{Drawer, Dry, Keeper, Numbers};
 use std::alloc::Global;
 
 /// What handles the events of a node, one after another, over its flash. The flash stays with the caller and is passed to each call: it is
@@ -69,7 +70,8 @@ pub trait Machine: Send + Drop {
     /// image of it recovers a node or a reset.
     ///
     /// The counter opens at the mark that the records say. Nothing is written but where a flash of format 01 is migrated: the content of another
-    /// one stays, and it counts no program or erase call (`writes`). A node that was reset isn't migrated, also where the flash fails (`reset`).
+    /// one stays, and it counts no program or erase call (`writes`). A node that was reset isn't migrated, also where the flash fails (`reset`). It
+    /// makes at most the read calls of a mount (`writes`).
     fn start<F: Flash>(alloc: Global, flash: &mut F) -> Result<Started<Self>, StartFault>
         requires fresh { IsFresh (F.chip flash.old) }
         requires node { IsNodeFlash image (F.chip flash.old) }
@@ -104,7 +106,7 @@ pub trait Machine: Send + Drop {
             → fits reader.new other event };
 
     /// Handles an event of a bearer, which is the one with this number among its events, from 1 on. What was read before is used where the machine
-    /// would read the same now; else it reads again.
+    /// would read the same now; else it reads again. It reads nothing of the flash, whatever it answers (`unread`).
     fn handle<F: Flash>(
         &mut self,
         n: &Numbers,
@@ -121,13 +123,15 @@ pub trait Machine: Send + Drop {
         ensures ok { IfOk result
             (λ r. view self.new
             ≡ with_entry (view self.old) (entry_for (view self.old) bearer number event.now r.answer r.jobs)
-            (view self.new).mark) }
+            (last_word (went_to (advances self.new))) (view self.new).mark) }
         ensures place { IfOk result (λ r. r.at ≡ length (view self.old).entries) }
         ensures usable { OnOk result ((view self.old).closed ≡ false) }
         ensures no_fault { OnOk result ((F.chip flash.new).faults ≡ (F.chip flash.old).faults) }
         ensures jobs { IfOk result (λ r. All (IsJob event.now) r.jobs) }
         // After the lines of what isn't from outside nothing is handled.
         ensures quiet { is_outside event.now ≡ false → IfOk result (λ r. All IsQuiet r.jobs) }
+        // It makes no read call on the flash, whatever it answers.
+        ensures unread { (F.chip flash.new).reads ≡ (F.chip flash.old).reads }
 
         ensures refused { IfErr result
             (IsRefused F.chip (Hand.OfEvent event.now) (view self.old) (view self.new) flash.old flash.new) }
@@ -137,8 +141,17 @@ pub trait Machine: Send + Drop {
             → stands first (F.chip flash.new) over self.new }
         ensures frame { Keeps (F.chip flash.old) (F.chip flash.new) };
 
+    /// Tells a seat that draws where the machine has moved the counter to so far. What it draws from now on isn't below that (`above` of `try_draw` in
+    /// `seq_word`). The machine stays as it is, and it takes no memory.
+    fn inform(&mut self, n: &Numbers, d: &mut Drawer)
+        requires made { (view self.old).which ≡ n.now.which }
+        requires drawer_made { d.old.which ≡ n.now.which }
+        ensures same { self.new ≡ self.old }
+        ensures informed { d.new ≡ record d.old { informed = d.old.informed ++ went_to (advances self.old) } };
+
     /// Stores a refill, and publishes its mark, 256 higher, where the mark that a draw reached is the one published last (`filled`); else a
-    /// refill came between, and nothing changes (`nothing`). Returns the mark that is published then. It takes no memory.
+    /// refill came between, and nothing changes (`nothing`). Returns the mark that is published then. It takes no memory, and reads nothing of the
+    /// flash, whatever it answers (`unread`).
     ///
     /// It takes what the draw answered, since a mark is published with that alone: so there is no refill without a draw that found the counter
     /// at the mark, and the mark is at most 256 above the counter when the words are closed (`near` of `close` in `seq_word`).
@@ -163,6 +176,8 @@ pub trait Machine: Send + Drop {
             (IsRefused F.chip Hand.OfRefill (view self.old) (view self.new) flash.old flash.new) }
         ensures closed { (view self.old).closed ≡ true → result ≡ Err Stop.Closed }
         ensures memory { result ≢ Err Stop.Memory }
+        // It makes no read call on the flash, whatever it answers.
+        ensures unread { (F.chip flash.new).reads ≡ (F.chip flash.old).reads }
 
         ensures kept { (first : FlashFound) (over : List StoreRecord) → stands first (F.chip flash.old) over self.old
             → stands first (F.chip flash.new) over self.new }

@@ -1,9 +1,14 @@
 -- Where the counter is moved to, as records are stored.
-use Rattle.std.proofs.Common.{◌≡◌, ℕ, List, [], ◌∷◌, ◌++◌, fold, nat_lt, if◌then◌else◌, append-nil, append_assoc, refl, ap, sym, ◌∙◌, arith}
+use Rattle.std.proofs.Common.{◌≡◌, ℕ, List, [], ◌∷◌, ◌++◌, drop, fold, length, nat_lt, if◌then◌else◌, append-nil, append_assoc, refl, ap, sym, ◌∙◌, arith}
 use Rattle.std.proofs.lemmas.Bool.Decides.{nat_tests}
 use Rattle.std.proofs.lemmas.Grind.{fold-append}
+use Rattle.event_definitions.specs.Handling.{past_of, records_after}
+use Rattle.event_definitions.specs.History.{Told}
+use Rattle.event_definitions.specs.Role.{Role}
 use Rattle.event_storing.specs.Storing.{advance_to, advances_of, state_said}
-use Rattle.machine_contract.specs.Moved.{IsMoved, rise, rises, went_to}
+use Rattle.machine_contract.specs.Moves.{moves_from, rise, rises}
+use Rattle.machine_contract.specs.Moved.{IsMoved}
+use Rattle.seq_word.specs.Seen.{last_word, went_to}
 use Rattle.mesh_base.specs.IvState.{transmit_of}
 use Rattle.record_types.specs.declared.records.StoreRecord.{StoreRecord}
 use Rattle.record_types.specs.declared.records.StoreRecord.TheVariants as R
@@ -44,6 +49,40 @@ pub moved_fill : (over records : List StoreRecord) (advances : List (ℕ × ℕ)
 moved_fill over records advances h =
     moved_more over records (fill_of (config_of records) ∷ []) advances advances h
     (sym (append-nil (went_to advances)) ∙ ap (λ l. went_to advances ++ l) (sym (fill_rises (config_of records))))
+
+-- Where it was moved to behind each entry.
+
+-- behind a list there is what was put behind it
+dropped : (xs ys : List StoreRecord) → drop (length xs) (xs ++ ys) ≡ ys
+dropped [] ys = refl
+dropped (x ∷ xs) ys = dropped xs ys
+
+-- the last of the words that these records moved it to, behind those of before
+abbrev last_of : List StoreRecord → List StoreRecord → ℕ
+last_of over records = last_word (rises (config_of over) (drop (length over) records))
+
+-- with an entry more
+moves_more : (role : Role) (over : List StoreRecord) (before ts : List Told) (t : Told)
+    → moves_from role over before (ts ++ t ∷ []) ≡ moves_from role over before ts ++ last_of over (records_after role (past_of (before ++ ts) t) t) ∷ []
+moves_more role over before [] t = ap (λ l. last_of over (records_after role (past_of l t) t) ∷ []) (sym (append-nil before))
+moves_more role over before (x ∷ ts) t =
+    ap (λ l. last_of over (records_after role (past_of before x) x) ∷ l)
+    (moves_more role over (before ++ x ∷ []) ts t
+    ∙ ap (λ l. moves_from role over (before ++ x ∷ []) ts ++ last_of over (records_after role (past_of l t) t) ∷ []) (append_assoc before (x ∷ []) ts))
+
+-- the word that it was moved to last is the last one that records moved it to
+last_moved : (over records : List StoreRecord) (advances : List (ℕ × ℕ)) → IsMoved over records advances → last_word (went_to advances) ≡ last_of over records
+last_moved over records advances h =
+    ap last_word h.moved
+    ∙ ap (λ l. last_word (rises (config_of over) l)) (sym (dropped over h.items) ∙ ap (drop (length over)) (sym h.are))
+
+pub moved_entry : (role : Role) (over : List StoreRecord) (told : List Told) (t : Told) (records : List StoreRecord) (advances : List (ℕ × ℕ)) (moves : List ℕ)
+    → moves ≡ moves_from role over [] told → records ≡ records_after role (past_of told t) t → IsMoved over records advances
+    → moves ++ last_word (went_to advances) ∷ [] ≡ moves_from role over [] (told ++ t ∷ [])
+moved_entry role over told t records advances moves before is h =
+    ap (λ l. l ++ last_word (went_to advances) ∷ []) before
+    ∙ ap (λ n. moves_from role over [] told ++ n ∷ []) (last_moved over records advances h ∙ ap (last_of over) is)
+    ∙ sym (moves_more role over [] told t)
 
 -- What the call says that puts the records of an event is the same.
 

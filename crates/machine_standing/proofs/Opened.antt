@@ -1,7 +1,7 @@
 -- What a life opens with, what a refused opening leaves, and what an arm leaves.
 use Rattle.std.proofs.Common.{◌≡◌, ℕ, ◌+◌, ◌≤◌, Bool, true, false, List, [], append-nil, refl, ap, sym, subst, ◌∙◌, arith, true≢false}
 use Rattle.std.specs.Prelude.{IsTrue}
-use Rattle.flash_model.specs.Chip.{Chip, Stays}
+use Rattle.flash_model.specs.Chip.{CallCount, Chip, Stays, count_of}
 use Rattle.machine_contract.specs.Moved.{IsMoved}
 use Rattle.machine_contract.specs.Opening.{FlashFound, IsUnwritten}
 use Rattle.machine_contract.specs.Refused.{IsStartCause, IsUntouched, WasReset}
@@ -30,18 +30,19 @@ use Rattle.slot_journal.specs.Tie.{IsMounted as IsJournalMounted}
 use Rattle.store_definitions.specs.Config.{Config, config_of}
 use Rattle.store_definitions.specs.Ranges.{IsInRange}
 use Rattle.store_definitions.proofs.Wear.{at_most_of}
-use Rattle.store_definitions.specs.Wear.{CostsAndUses, CostsAtMost, IsTakenUp}
+use Rattle.store_definitions.specs.Wear.{CostsAndUses, CostsAtMost, IsTakenUp, MOUNT_READS}
 
 pub opened_stands : {Memory : Type 0} (role : Role) (Before : Past → LifeMachine Memory → Type 0) (first : FlashFound) (chip : Chip) (over : List StoreRecord) (r : Reserve) (t : Memory) (elements : ℕ)
     → IsStoreOf chip r.store over → IsNodeStore over r.store.persist → Before (record { told = []; records = over }) (opened_by r t elements)
     → IsPublished r.store r.keeper → r.keeper.advances ≡ [] → elements ≡ r.store.persist.elements → chip.setting.faults ≤ chip.faults
-    → (used : ℕ) → IsTakenUp first.now used → CostsAndUses used 0 first.changes chip.changes r.store.journal.used
+    → (used : ℕ) → IsTakenUp first.now used → CostsAndUses used 0 first.count (count_of chip) r.store.journal.used → chip.reads ≤ first.reads + MOUNT_READS
     → StandsBy role Before first chip over (opened_by r t elements)
-opened_stands role Before first chip over r t elements store node before published none is began used taken_up wear = record {
+opened_stands role Before first chip over r t elements store node before published none is began used taken_up wear few_reads = record {
   life = record {
     told = [];
     entries = refl;
     handled = tt;
+    moves = refl;
     few = omega arith;
     elements = is ∙ ap (λ (c : Config). c.elements) node.meaning.config;
     node = store_node chip r.store over store node.whole;
@@ -55,8 +56,9 @@ opened_stands role Before first chip over r t elements store node before publish
       behind = omega arith;
       used = used;
       taken_up = taken_up;
-      costs = at_most_of used 0 first.changes chip.changes r.store.journal.used wear;
+      costs = at_most_of used 0 first.count (count_of chip) r.store.journal.used wear;
     };
+    reads = few_reads;
   };
   usable = λ e. record { store = store; before = before };
   moved = λ e. subst (λ (a : List (ℕ × ℕ)). IsMoved over over a) (sym none) (moved_none over);
@@ -113,6 +115,7 @@ stands_same role Before first old new over m same s = record {
     told = s.life.told;
     entries = s.life.entries;
     handled = s.life.handled;
+    moves = s.life.moves;
     few = s.life.few;
     elements = s.life.elements;
     node = record { honest = same.honest ∙ s.life.node.honest; each = λ image is. s.life.node.each image (same.stays image is) };
@@ -126,13 +129,14 @@ stands_same role Before first old new over m same s = record {
       behind = s.life.paid.behind;
       used = s.life.paid.used;
       taken_up = s.life.paid.taken_up;
-      costs = subst (λ n. CostsAtMost s.life.paid.used (s.life.paid.stored + s.life.in_hand) first.changes n) (sym same.changes) s.life.paid.costs;
+      costs = subst (λ (n : CallCount). CostsAtMost s.life.paid.used (s.life.paid.stored + s.life.in_hand) first.count n) (sym same.count) s.life.paid.costs;
     };
+    reads = omega (arith, same.reads, s.life.reads);
   };
   usable = λ e. record { store = store_same old new m.reserve.store _ same (s.usable e).store; before = (s.usable e).before };
   moved = s.moved;
   began = omega (arith, s.began, same.faults, same.began);
-  wear = λ e. subst (λ n. CostsAndUses s.life.paid.used s.life.paid.stored first.changes n m.reserve.store.journal.used) (sym same.changes) (s.wear e);
+  wear = λ e. subst (λ (n : CallCount). CostsAndUses s.life.paid.used s.life.paid.stored first.count n m.reserve.store.journal.used) (sym same.count) (s.wear e);
 }
 
 -- The causes of a store that isn't mounted.
@@ -158,7 +162,7 @@ start_cause old new node (F.Damaged n) law honest cause same sound = (was_reset 
 start_cause old new node F.WasReset law honest cause same sound = (was_reset old node F.WasReset law (cause honest), same, sound tt)
 
 -- Where the records that are read say a Node Reset, nothing is written.
-pub unwritten_reset : (old new : Chip) (node : IsNode old.now) → IsTrue old.honest → (IsTrue old.honest → IsReset old.now → Stays old new × (new.changes ≡ old.changes)) → WasReset old
+pub unwritten_reset : (old new : Chip) (node : IsNode old.now) → IsTrue old.honest → (IsTrue old.honest → IsReset old.now → Stays old new × (count_of new ≡ count_of old)) → WasReset old
     → IsUnwritten old new
 unwritten_reset old new node honest mounted was =
     let alike = holds_recovered old.now node.records was.over (holds_exactly old.now node.records node.read) was.read in

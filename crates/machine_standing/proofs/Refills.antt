@@ -1,7 +1,7 @@
 -- What a refill leaves, whether its record was stored or not.
 use Rattle.std.proofs.Common.{◌≡◌, ℕ, ◌+◌, ◌*◌, ◌≤◌, ◌<◌, ◌^◌, ⊎_elim, false, List, [], ◌∷◌, ◌++◌, append-nil, ap, sym, subst, ◌∙◌, arith}
 use Rattle.std.specs.Prelude.{All, IsTrue}
-use Rattle.flash_model.specs.Chip.{Chip, Keeps, Setting}
+use Rattle.flash_model.specs.Chip.{Chip, Keeps, Setting, count_of}
 use Rattle.machine_contract.specs.Opening.{FlashFound}
 use Rattle.machine_contract.specs.Standing.{past_now}
 use Rattle.machine_contract.specs.declared.answers.Hand.TheVariants as H
@@ -76,23 +76,23 @@ module _ {Memory : Type 0} (role : Role) (Before : Past → LifeMachine Memory �
       → IsStoreOf new r.store (with_fill (past_now role over s.life.told m.fills)).records
       → IsMeaningOf (with_fill (past_now role over s.life.told m.fills)).records r.store.persist
       → IsPublished r.store r.keeper → r.keeper.advances ≡ m.reserve.keeper.advances → Keeps old new
-      → CostsAndUses m.reserve.store.journal.used 1 old.changes new.changes r.store.journal.used
+      → CostsAndUses m.reserve.store.journal.used 1 (count_of old) (count_of new) r.store.journal.used → new.reads ≡ old.reads
       → StandsBy role Before first new over (refilled_by m r)
-  refill_stands first old new over s runs r before seq store meaning published same keeps wear =
+  refill_stands first old new over s runs r before seq store meaning published same keeps wear unread =
       let past : Past = past_now role over s.life.told m.fills in
       refilled_stands role Before kind first old new over m s runs r (refill_kept past (s.usable runs).before before seq) store published meaning same
-      (omega (arith, s.began, keeps.later, ap (λ (x : Setting). x.faults) keeps.setting)) wear
+      (omega (arith, s.began, keeps.later, ap (λ (x : Setting). x.faults) keeps.setting)) wear unread
 
   pub refill_stops : (first : FlashFound) (old new : Chip) (over : List StoreRecord) (s : StandsBy role Before first old over m) → m.closed ≡ false → (r : Reserve)
       → IsPublished m.reserve.store m.reserve.keeper → seq_of m.reserve.keeper.mark < 2 ^ 24
       → IsCutIn new (past_now role over s.life.told m.fills).records (fill_of (config_of (past_now role over s.life.told m.fills).records) ∷ []) r.keeper.mark
       → old.faults < new.faults → Keeps old new
-      → CostsAtMost m.reserve.store.journal.used 1 old.changes new.changes
+      → CostsAtMost m.reserve.store.journal.used 1 (count_of old) (count_of new) → new.reads ≡ old.reads
       → StandsBy role Before first new over (stopped_by m r m.tables H.OfRefill)
-  refill_stops first old new over s runs r before seq cut rose keeps wear =
+  refill_stops first old new over s runs r before seq cut rose keeps wear unread =
       let past : Past = past_now role over s.life.told m.fills in
       unfilled_stands role Before kind first old new over m s runs r (refill_kept past (s.usable runs).before before seq) cut
-      (omega (arith, s.began, rose, ap (λ (x : Setting). x.faults) keeps.setting)) wear
+      (omega (arith, s.began, rose, ap (λ (x : Setting). x.faults) keeps.setting)) wear unread
 
   pub refill_ready : (Fits : Memory → Persist → Type 0) (ready : IsReadyBy Before Fits m) (r : Reserve) → seq_of m.reserve.keeper.mark < 2 ^ 24
       → IsMeaningOf (with_fill ready.past).records r.store.persist → IsPublished r.store r.keeper → r.store.journal.closed ≡ false

@@ -5,14 +5,16 @@ use Rattle.event_definitions.proofs.Handling.{handled_more, left_more}
 use Rattle.event_definitions.specs.Handling.{Handles, records_left}
 use Rattle.event_definitions.specs.History.{Insight, Past, Told}
 use Rattle.event_definitions.specs.Role.{Role}
-use Rattle.flash_model.specs.Chip.{Chip}
+use Rattle.flash_model.specs.Chip.{Chip, count_of}
 use Rattle.machine_contract.specs.declared.answers.Hand.TheVariants as H
-use Rattle.machine_contract.specs.Moved.{IsMoved, rises, went_to}
+use Rattle.machine_contract.specs.Moves.{rises}
+use Rattle.machine_contract.specs.Moved.{IsMoved}
+use Rattle.seq_word.specs.Seen.{went_to}
 use Rattle.machine_contract.specs.Opening.{FlashFound, IsLeft}
 use Rattle.machine_contract.specs.Standing.{AreInHand, IsFrontLeft, IsLeftBy, past_now}
 use Rattle.machine_standing.proofs.Images.{front_left, front_node, store_left, store_mark, store_node}
 use Rattle.machine_standing.proofs.Lives.{filled_more}
-use Rattle.machine_standing.proofs.Moved.{moved_fill, moved_more}
+use Rattle.machine_standing.proofs.Moved.{moved_entry, moved_fill, moved_more}
 use Rattle.machine_standing.proofs.Worn.{none_in_hand, stored_more}
 use Rattle.machine_standing.specs.Kept.{AreKept}
 use Rattle.machine_standing.specs.Ties.{IsCutIn, IsKind, IsNodeStore, IsOverBy, StandsBy, entered_by, refilled_by, stopped_by, with_fill}
@@ -82,21 +84,23 @@ module _ {Memory : Type 0} (role : Role) (Before : Past → LifeMachine Memory �
       → Before (past_with past entry insight records) (entered_by m r tables entry) → length m.entries + 1 < 2 ^ 32
       → IsStoreOf new r.store (past.records ++ records) → r.keeper.mark ≡ r.store.persist.mark
       → went_to r.keeper.advances ≡ went_to m.reserve.keeper.advances ++ rises (config_of past.records) records → new.setting.faults ≤ new.faults
-      → CostsAndUses m.reserve.store.journal.used (length records) old.changes new.changes r.store.journal.used
+      → CostsAndUses m.reserve.store.journal.used (length records) (count_of old) (count_of new) r.store.journal.used → new.reads ≡ old.reads
       → StandsBy role Before first new over (entered_by m r tables entry)
-  entered_stands r tables entry insight records fills handles is before few store mark moved began wear =
+  entered_stands r tables entry insight records fills handles is before few store mark moved began wear unread =
       let t : Told = told_by past entry insight in
       let all : List StoreRecord = past.records ++ records in
       let left_is : records_left role over [] (past.told ++ t ∷ []) ≡ all =
       entered_left role over past.told m.fills t refl ∙ ap (λ l. past.records ++ l) (sym is) in
       let now : IsNodeStore all r.store.persist = kind.said (past_with past entry insight records) (entered_by m r tables entry) before in
-      let worn : CostsAndUses s.life.paid.used (s.life.paid.stored + length records) first.changes new.changes r.store.journal.used =
-      paid_more s.life.paid.used s.life.paid.stored (length records) first.changes old.changes new.changes m.reserve.store.journal.used r.store.journal.used (s.wear runs) wear in
+      let gone : IsMoved over all r.keeper.advances = moved_more over past.records records m.reserve.keeper.advances r.keeper.advances (s.moved runs) moved in
+      let worn : CostsAndUses s.life.paid.used (s.life.paid.stored + length records) first.count (count_of new) r.store.journal.used =
+      paid_more s.life.paid.used s.life.paid.stored (length records) first.count (count_of old) (count_of new) m.reserve.store.journal.used r.store.journal.used (s.wear runs) wear in
       record {
         life = record {
           told = past.told ++ t ∷ [];
           entries = map-append (λ (x : Told). x.entry) past.told (t ∷ []) ∙ ap (λ l. l ++ entry ∷ []) s.life.entries;
           handled = handled_more role over [] past.told t s.life.handled (ap (λ n. filled n (records_left role over [] past.told)) (sym fills)) handles;
+          moves = moved_entry role over past.told t all r.keeper.advances m.moves s.life.moves (ap (λ l. past.records ++ l) is) gone;
           few = omega (arith, few, length-append m.entries (entry ∷ []));
           elements = s.life.elements;
           node = store_node new r.store all store now.whole;
@@ -114,11 +118,12 @@ module _ {Memory : Type 0} (role : Role) (Before : Past → LifeMachine Memory �
             behind = ap length left_is ∙ stored_more over past.records records s.life.paid.stored s.life.paid.behind;
             used = s.life.paid.used;
             taken_up = s.life.paid.taken_up;
-            costs = none_in_hand s.life.paid.used (s.life.paid.stored + length records) first.changes new.changes r.store.journal.used worn;
+            costs = none_in_hand s.life.paid.used (s.life.paid.stored + length records) first.count (count_of new) r.store.journal.used worn;
           };
+          reads = omega (arith, unread, s.life.reads);
         };
         usable = λ e. subst (λ l. IsOverBy Before new (record { told = past.told ++ t ∷ []; records = l }) (entered_by m r tables entry)) (sym left_is) (record { store = store; before = before });
-        moved = λ e. subst (λ l. IsMoved over l r.keeper.advances) (sym left_is) (moved_more over past.records records m.reserve.keeper.advances r.keeper.advances (s.moved runs) moved);
+        moved = λ e. subst (λ l. IsMoved over l r.keeper.advances) (sym left_is) gone;
         began = began;
         wear = λ e. worn;
       }
@@ -128,13 +133,14 @@ module _ {Memory : Type 0} (role : Role) (Before : Past → LifeMachine Memory �
       → role.sees past event insight
       → records ≡ role.stores past event insight (role.answer past event insight) → AreKept (config_of past.records) records
       → IsCutIn new past.records records r.keeper.mark → new.setting.faults < new.faults
-      → CostsAtMost m.reserve.store.journal.used (length records) old.changes new.changes
+      → CostsAtMost m.reserve.store.journal.used (length records) (count_of old) (count_of new) → new.reads ≡ old.reads
       → StandsBy role Before first new over (stopped_by m r tables (H.OfEvent event))
-  stopped_stands r tables event insight records sees is kept cut rose wear = record {
+  stopped_stands r tables event insight records sees is kept cut rose wear unread = record {
     life = record {
       told = past.told;
       entries = s.life.entries;
       handled = s.life.handled;
+      moves = s.life.moves;
       few = s.life.few;
       elements = s.life.elements;
       node = record { honest = cut.honest; each = λ image held. front_node kind.whole image past.records records (cut.fronts image held) kept said.whole };
@@ -153,8 +159,9 @@ module _ {Memory : Type 0} (role : Role) (Before : Past → LifeMachine Memory �
         behind = s.life.paid.behind;
         used = s.life.paid.used;
         taken_up = s.life.paid.taken_up;
-        costs = at_most_more s.life.paid.used s.life.paid.stored (length records) first.changes old.changes new.changes m.reserve.store.journal.used (s.wear runs) wear;
+        costs = at_most_more s.life.paid.used s.life.paid.stored (length records) first.count (count_of old) (count_of new) m.reserve.store.journal.used (s.wear runs) wear;
       };
+      reads = omega (arith, unread, s.life.reads);
     };
     usable = λ e. absurd (true≢false e);
     moved = λ e. absurd (true≢false e);
@@ -172,13 +179,14 @@ module _ {Memory : Type 0} (role : Role) (Before : Past → LifeMachine Memory �
   -- A machine that a failed refill closed.
   pub unfilled_stands : (r : Reserve) → AreKept (config_of past.records) (fill_of (config_of past.records) ∷ [])
       → IsCutIn new past.records (fill_of (config_of past.records) ∷ []) r.keeper.mark → new.setting.faults < new.faults
-      → CostsAtMost m.reserve.store.journal.used 1 old.changes new.changes
+      → CostsAtMost m.reserve.store.journal.used 1 (count_of old) (count_of new) → new.reads ≡ old.reads
       → StandsBy role Before first new over (stopped_by m r m.tables H.OfRefill)
-  unfilled_stands r kept cut rose wear = record {
+  unfilled_stands r kept cut rose wear unread = record {
     life = record {
       told = past.told;
       entries = s.life.entries;
       handled = s.life.handled;
+      moves = s.life.moves;
       few = s.life.few;
       elements = s.life.elements;
       node = record { honest = cut.honest; each = λ image held. front_node kind.whole image past.records _ (cut.fronts image held) kept said.whole };
@@ -195,8 +203,9 @@ module _ {Memory : Type 0} (role : Role) (Before : Past → LifeMachine Memory �
         behind = s.life.paid.behind;
         used = s.life.paid.used;
         taken_up = s.life.paid.taken_up;
-        costs = at_most_more s.life.paid.used s.life.paid.stored 1 first.changes old.changes new.changes m.reserve.store.journal.used (s.wear runs) wear;
+        costs = at_most_more s.life.paid.used s.life.paid.stored 1 first.count (count_of old) (count_of new) m.reserve.store.journal.used (s.wear runs) wear;
       };
+      reads = omega (arith, unread, s.life.reads);
     };
     usable = λ e. absurd (true≢false e);
     moved = λ e. absurd (true≢false e);
@@ -215,22 +224,23 @@ module _ {Memory : Type 0} (role : Role) (Before : Past → LifeMachine Memory �
       → IsStoreOf new r.store (past.records ++ fill_of (config_of past.records) ∷ []) → r.keeper.mark ≡ r.store.persist.mark
       → IsMeaningOf (past.records ++ fill_of (config_of past.records) ∷ []) r.store.persist
       → r.keeper.advances ≡ m.reserve.keeper.advances → new.setting.faults ≤ new.faults
-      → CostsAndUses m.reserve.store.journal.used 1 old.changes new.changes r.store.journal.used
+      → CostsAndUses m.reserve.store.journal.used 1 (count_of old) (count_of new) r.store.journal.used → new.reads ≡ old.reads
       → StandsBy role Before first new over (refilled_by m r)
-  refilled_stands r kept store mark meaning same began wear =
+  refilled_stands r kept store mark meaning same began wear unread =
       let item : List StoreRecord = fill_of (config_of past.records) ∷ [] in
       let all : List StoreRecord = past.records ++ item in
       let left_is : filled (m.fills + 1) (records_left role over [] past.told) ≡ all =
       ap (λ n. filled n (records_left role over [] past.told)) (add-one m.fills) ∙ filled_more m.fills (records_left role over [] past.told) in
       let before : Before (with_fill past) (refilled_by m r) = kind.refilled past m r kept meaning (s.usable runs).before in
       let now : IsNodeStore all r.store.persist = kind.said (with_fill past) (refilled_by m r) before in
-      let worn : CostsAndUses s.life.paid.used (s.life.paid.stored + 1) first.changes new.changes r.store.journal.used =
-      paid_more s.life.paid.used s.life.paid.stored 1 first.changes old.changes new.changes m.reserve.store.journal.used r.store.journal.used (s.wear runs) wear in
+      let worn : CostsAndUses s.life.paid.used (s.life.paid.stored + 1) first.count (count_of new) r.store.journal.used =
+      paid_more s.life.paid.used s.life.paid.stored 1 first.count (count_of old) (count_of new) m.reserve.store.journal.used r.store.journal.used (s.wear runs) wear in
       record {
         life = record {
           told = past.told;
           entries = s.life.entries;
           handled = s.life.handled;
+          moves = s.life.moves;
           few = s.life.few;
           elements = s.life.elements;
           node = store_node new r.store all store now.whole;
@@ -248,8 +258,9 @@ module _ {Memory : Type 0} (role : Role) (Before : Past → LifeMachine Memory �
             behind = ap length left_is ∙ stored_more over past.records item s.life.paid.stored s.life.paid.behind;
             used = s.life.paid.used;
             taken_up = s.life.paid.taken_up;
-            costs = none_in_hand s.life.paid.used (s.life.paid.stored + 1) first.changes new.changes r.store.journal.used worn;
+            costs = none_in_hand s.life.paid.used (s.life.paid.stored + 1) first.count (count_of new) r.store.journal.used worn;
           };
+          reads = omega (arith, unread, s.life.reads);
         };
         usable = λ e. subst (λ l. IsOverBy Before new (record { told = past.told; records = l }) (refilled_by m r)) (sym left_is) (record { store = store; before = before });
         moved = λ e. subst (λ l. IsMoved over l r.keeper.advances) (sym left_is)

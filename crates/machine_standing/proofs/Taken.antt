@@ -18,6 +18,7 @@ stands_taken role Before law first chip over m n h = record {
     told = h.life.told;
     entries = h.life.entries;
     handled = h.life.handled;
+    moves = h.life.moves;
     few = h.life.few;
     elements = h.life.elements;
     node = h.life.node;
@@ -27,6 +28,7 @@ stands_taken role Before law first chip over m n h = record {
     in_hand = h.life.in_hand;
     hand = h.life.hand;
     paid = h.life.paid;
+    reads = h.life.reads;
   };
   usable = λ runs. let o = h.usable runs in record { store = o.store; before = law (past_now role over h.life.told m.fills) m n o.before };
   moved = h.moved;

@@ -3,7 +3,7 @@
 use Rattle.std.specs.Prelude.{◌≡◌, ℕ, ◌+◌, ◌*◌, ◌≤◌, true, false, IsTrue, All, List, [], ◌∷◌, ◌++◌}
 use Rattle.event_definitions.specs.History.{Insight, Past}
 use Rattle.event_definitions.specs.Role.{Role}
-use Rattle.flash_model.specs.Chip.{Chip}
+use Rattle.flash_model.specs.Chip.{Chip, count_of}
 use Rattle.machine_contract.specs.declared.answers.Hand.{Hand}
 use Rattle.machine_contract.specs.declared.answers.Hand.TheVariants as H
 use Rattle.machine_contract.specs.Moved.{IsMoved}
@@ -20,6 +20,7 @@ use Rattle.record_types.specs.declared.records.StoreRecord.{StoreRecord}
 use Rattle.run_definitions.specs.Order.{is_outside}
 use Rattle.seq_reserve.specs.Reserving.{IsDurable, IsPublished}
 use Rattle.seq_reserve.specs.declared.reserve.Reserve.{Reserve}
+use Rattle.seq_word.specs.Seen.{last_word, went_to}
 use Rattle.seq_word.specs.Word.{seq_of}
 use Rattle.store_definitions.specs.Config.{config_of}
 use Rattle.store_definitions.specs.Node.{IsWhole}
@@ -59,12 +60,18 @@ pub record StandsBy {Memory : Type 0} (role : Role) (Before : Past → LifeMachi
   pub moved : m.closed ≡ false → IsMoved over (past_now role over life.told m.fills).records m.reserve.keeper.advances
   pub began : chip.setting.faults ≤ chip.faults
   pub wear : m.closed ≡ false
-      → CostsAndUses life.paid.used life.paid.stored first.changes chip.changes m.reserve.store.journal.used
+      → CostsAndUses life.paid.used life.paid.stored first.count (count_of chip) m.reserve.store.journal.used
 
 -- The machine after an event: with this entry, and no refill behind it.
 abbrev pub entered_by : {Memory : Type 0} → LifeMachine Memory → Reserve → Memory → Entry → LifeMachine Memory
 entered_by m reserve tables entry =
-    record m { reserve = reserve; tables = tables; entries = m.entries ++ entry ∷ []; fills = 0 }
+    record m {
+      reserve = reserve;
+      tables = tables;
+      entries = m.entries ++ entry ∷ [];
+      moves = m.moves ++ last_word (went_to reserve.keeper.advances) ∷ [];
+      fills = 0;
+    }
 
 -- the machine that a call closed, with this in hand
 abbrev pub stopped_by : {Memory : Type 0} → LifeMachine Memory → Reserve → Memory → Hand → LifeMachine Memory
@@ -80,6 +87,7 @@ opened_by reserve tables elements = record {
   reserve = reserve;
   tables = tables;
   entries = [];
+  moves = [];
   taken = 0;
   fills = 0;
   closed = false;

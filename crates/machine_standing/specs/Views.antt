@@ -10,8 +10,10 @@ pub record LifeMachine (Memory : Type 0) : Type 0 where
   pub reserve : Reserve
   -- what it keeps in memory
   pub tables : Memory
-  -- the history of this life, how many of its entries were taken, and the number of refills that were stored since the last entry
+  -- the history of this life, behind each of its entries the word that the counter had been moved to last (0 where it hadn't been), how many of them
+  -- were taken, and the number of refills that were stored since the last entry
   pub entries : List Entry
+  pub moves : List ℕ
   pub taken : ℕ
   pub fills : ℕ
   -- a call on the flash failed, and what was in hand then
@@ -23,6 +25,7 @@ pub record LifeMachine (Memory : Type 0) : Type 0 where
 abbrev pub shown_of : {Memory : Type 0} → LifeMachine Memory → MachineView
 shown_of m = record {
   entries = m.entries;
+  moves = m.moves;
   taken = m.taken;
   fills = m.fills;
   closed = m.closed;

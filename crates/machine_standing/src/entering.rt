@@ -2,6 +2,7 @@
 #![tactic(auto)]
 
 ghost use Rattle.std.specs.Prelude.{◌≡◌, ◌+◌, ◌-◌, ◌<◌, ◌^◌, [], ◌∷◌, ◌++◌, length, IfOk, OnOk, IfErr};
+ghost use Rattle.seq_word.specs.Seen.{last_word, went_to};
 
 use entry_log::EntryLog;
 use machine_contract::{Answered, Stop};
@@ -10,6 +11,7 @@ use mesh_types::events::Event;
 use mesh_types::history::Entry;
 use mesh_types::jobs::{JobDraft, Jobs};
 use mesh_types::told::{Told, ToldEvent};
+use seq_word::Keeper;
 use std::alloc::AllocError;
 
 /// A history has at most so many entries.
@@ -31,6 +33,7 @@ fn memory_for_one(history: &mut EntryLog) -> Result<JobDraft, AllocError>
     ensures draft { IfOk result (λ draft. draft ≡ []) }
     ensures room { OnOk result (0 < history.new.room) }
     ensures entries { history.new.entries ≡ history.old.entries }
+    ensures moves { history.new.moves ≡ history.old.moves }
     ensures taken { history.new.taken ≡ history.old.taken }
 {
     history.reserve()?;
@@ -45,6 +48,7 @@ pub fn room(history: &mut EntryLog) -> Result<JobDraft, Stop>
     ensures few { OnOk result (length history.new.entries < 2 ^ 32 - 1) }
     ensures memory { IfErr result (λ stop. stop ≡ Stop.Memory) }
     ensures entries { history.new.entries ≡ history.old.entries }
+    ensures moves { history.new.moves ≡ history.old.moves }
     ensures taken { history.new.taken ≡ history.old.taken }
 {
     if history.count() >= MOST_ENTRIES {
@@ -56,10 +60,11 @@ pub fn room(history: &mut EntryLog) -> Result<JobDraft, Stop>
     }
 }
 
-/// Appends the entry of an event, for which there is room.
+/// Appends the entry of an event, for which there is room. The keeper of the numbers tells contracts where the counter has been moved to (`moves`).
 #[inline(always)]
 pub fn enter(
     history: &mut EntryLog,
+    keeper: &Keeper,
     place: Place,
     event: &Event,
     answer: Answer,
@@ -77,6 +82,7 @@ pub fn enter(
           answer = result.answer;
           jobs = result.jobs;
         }) ∷ [] }
+    ensures moves { history.new.moves ≡ history.old.moves ++ last_word (went_to keeper.now.advances) ∷ [] }
     ensures taken { history.new.taken ≡ history.old.taken }
     ensures place { result.at ≡ length history.old.entries }
     ensures answer { result.answer ≡ answer }
@@ -87,13 +93,14 @@ pub fn enter(
         answer: Told::of(&answer),
         jobs,
     };
-    history.push(Entry {
+    let entry = Entry {
         bearer: place.bearer,
         number: place.number,
         event: ToldEvent::of(event),
         fills: place.fills,
         answer,
         jobs: Told::of(&answered.jobs),
-    });
+    };
+    history.push(entry, keeper);
     answered
 }

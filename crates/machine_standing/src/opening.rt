@@ -2,8 +2,8 @@
 #![tactic(auto)]
 
 ghost use Rattle.std.specs.Prelude.{◌≡◌, IfErr, IfOk, OnOk};
-ghost use Rattle.flash_model.specs.Arming.{Begins};
-ghost use Rattle.flash_model.specs.Chip.{IsFresh, Keeps};
+ghost use Rattle.flash_model.specs.Arming.{Begins, Erases, Programs};
+ghost use Rattle.flash_model.specs.Chip.{IsFresh, Keeps, count_of};
 ghost use Rattle.machine_contract.specs.Opening.{IsNodeFlash, IsUnwritten, MigratesOnly};
 ghost use Rattle.machine_contract.specs.Refused.{IsStartCause, IsUntouched, WasReset};
 ghost use Rattle.machine_standing.specs.Opening.{IsNodeMounted, start_fault_of};
@@ -31,7 +31,7 @@ fn start_fault(fault: StoreFault) -> StartFault
 /// records that say the same (`untouched`). Nothing is written but where a bank of format 01 is migrated: the content of another flash stays, and it
 /// counts no program or erase call (`writes`). A flash that is migrated counts the calls of a compaction to the records that say the same
 /// (`calls`). How many slots were taken up, and how many are used then, says `wear`. Where a Node Reset is stored none is migrated, also where the
-/// flash fails (`reset`).
+/// flash fails (`reset`). It makes at most the read calls of a mount (`writes`).
 pub fn mount_node<F: Flash>(flash: &mut F) -> Result<Store, StartFault>
     requires fresh { IsFresh (F.chip flash.old) }
     requires node { IsNodeFlash IsNode (F.chip flash.old) }
@@ -41,9 +41,12 @@ pub fn mount_node<F: Flash>(flash: &mut F) -> Result<Store, StartFault>
     ensures writes { MigratesOnly (F.chip flash.old) (F.chip flash.new) }
     ensures reset { WasReset (F.chip flash.old) → IsUnwritten (F.chip flash.old) (F.chip flash.new) }
     ensures calls { HasFormat 1 (F.chip flash.old).now
-        → IfOk result (λ s. Begins (compaction s.persist) (F.chip flash.old) (F.chip flash.new)) }
+        → IfOk result
+        (λ s. Begins (compaction s.persist).calls (F.chip flash.old) (F.chip flash.new)
+        × Erases (compaction s.persist).erases (F.chip flash.old) (F.chip flash.new)
+        × Programs (compaction s.persist).octets (F.chip flash.old) (F.chip flash.new)) }
     ensures wear { IfOk result
-        (λ s. IsOpenedWith (F.chip flash.old).now (F.chip flash.old).changes (F.chip flash.new).changes s.journal.used) }
+        (λ s. IsOpenedWith (F.chip flash.old).now (count_of (F.chip flash.old)) (count_of (F.chip flash.new)) s.journal.used) }
     ensures no_fault { OnOk result ((F.chip flash.new).faults ≡ (F.chip flash.old).faults) }
     ensures frame { Keeps (F.chip flash.old) (F.chip flash.new) }
 {

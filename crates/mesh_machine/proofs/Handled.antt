@@ -9,9 +9,10 @@ use Rattle.event_plans.specs.Memory.{IsFitFor, NodeTablesView}
 use Rattle.event_plans.specs.Plans.{IsPlanned, IsSomePlan, IsStanding, LeavesConfig, insight_in, of_own}
 use Rattle.event_plans.specs.Sending.{IsOwn, IsSendable}
 use Rattle.event_records.specs.Putting.{AreMoves, ArePuttable}
-use Rattle.flash_model.specs.Chip.{Chip, Keeps}
+use Rattle.flash_model.specs.Chip.{Chip, Keeps, count_of}
 use Rattle.layer_laws.specs.Laws.{IsWithinLimits}
-use Rattle.machine_contract.specs.Moved.{rises, went_to}
+use Rattle.machine_contract.specs.Moves.{rises}
+use Rattle.seq_word.specs.Seen.{last_word, went_to}
 use Rattle.mesh_base.specs.declared.beacon.Beacon.{Beacon}
 use Rattle.machine_contract.specs.Opening.{FlashFound}
 use Rattle.machine_contract.specs.Ranges.{IsEvent, IsJob, IsQuiet}
@@ -132,13 +133,14 @@ entry_of place event a =
 pub done_by : (old stored : Parts) (log : LogView) (event : Event) (place : Place) (before after : Chip) (a : Answered) (plan : Plan) (tables : NodeTablesView)
     → IsAsked old event plan tables → AreStored plan.records (planned_parts old tables) stored before after → stored.history ≡ old.history
     → (e : Event) → e ≡ event
-    → log.entries ≡ stored.history.entries ++ entry_of place e a ∷ [] → log.taken ≡ stored.history.taken → a.at ≡ length stored.history.entries
+    → log.entries ≡ stored.history.entries ++ entry_of place e a ∷ []
+    → log.moves ≡ stored.history.moves ++ last_word (went_to stored.reserve.keeper.advances) ∷ [] → log.taken ≡ stored.history.taken → a.at ≡ length stored.history.entries
     → a.answer ≡ plan.answer → length old.history.entries < 2 ^ 32 - 1
     → (p : Persist) → p ≡ stored.reserve.store.persist → (jobs : List Job) → a.jobs ≡ jobs
     → ((past : Past) → IsPlanned past event plan tables → (config_in p).unicast ≡ (config_before past).unicast
     → LeavesConfig plan.answer (config_before past) (config_in p) → jobs ≡ jobs_of node_layers past (config_in p) event (insight_in plan.basis) plan.answer)
     → IsDone old (record stored { history = log }) event place before after a
-done_by old stored log event place before after a plan tables asked st same e is entries taken among answer few p now jobs made f = record {
+done_by old stored log event place before after a plan tables asked st same e is entries moves taken among answer few p now jobs made f = record {
   plan = plan;
   tables = tables;
   asked = asked;
@@ -160,6 +162,7 @@ done_by old stored log event place before after a plan tables asked st same e is
       (f past planned (subst (λ (q : Persist). (config_in q).unicast ≡ (config_before past).unicast) (sym now) unicast)
       (subst (λ (q : Persist). LeavesConfig plan.answer (config_before past) (config_in q)) (sym now) leaves));
   entry = entries ∙ ap (λ (h : LogView). h.entries ++ entry_of place e a ∷ []) same ∙ ap (λ (x : Event). old.history.entries ++ entry_of place x a ∷ []) is;
+  moves = moves ∙ ap (λ (h : LogView). h.moves ++ last_word (went_to stored.reserve.keeper.advances) ∷ []) same;
   taken = taken ∙ ap (λ (h : LogView). h.taken) same;
   among = among ∙ ap (λ (h : LogView). length h.entries) same;
   few = omega (arith, few);
@@ -181,8 +184,8 @@ nothing_stored old new event turn fit same chip = record {
   keys = subst (λ (r : Reserve). IsFit new.tables.hearing r.store.persist) (sym same) fit;
   tables = λ past h. h;
   models = refl;
-  wear = subst (λ (r : Reserve). CostsAndUses old.reserve.store.journal.used 0 chip.changes chip.changes r.store.journal.used) (sym same)
-      (paid_none old.reserve.store.journal.used chip.changes);
+  wear = subst (λ (r : Reserve). CostsAndUses old.reserve.store.journal.used 0 (count_of chip) (count_of chip) r.store.journal.used) (sym same)
+      (paid_none old.reserve.store.journal.used (count_of chip));
 }
 
 pub acted_done : (old new : Parts) (event : Event) (turn : IsTurnOf old event) (place : Place) (a : Answered) → IsActed old new event place a → (chip : Chip)
@@ -196,6 +199,7 @@ acted_done old new event turn place a d chip = record {
   jobs = λ past standing planned unicast leaves.
       subst (λ (r : Reserve). a.jobs ≡ jobs_of node_layers past (config_in r.store.persist) event OfNothing d.plan.answer) (sym d.reserve) (d.jobs past planned);
   entry = d.entry;
+  moves = d.moves;
   taken = d.taken;
   among = d.among;
   few = d.few;
@@ -211,6 +215,7 @@ cut_by old new event before after plan tables asked halted same = record {
   asked = asked;
   halted = halted;
   entries = ap (λ (h : LogView). h.entries) same;
+  moves = ap (λ (h : LogView). h.moves) same;
   taken = ap (λ (h : LogView). h.taken) same;
 }
 
@@ -227,9 +232,13 @@ module _ (laws : AreKeeping) (old new : Parts) (event : Event) (place : Place) (
   abbrev now_after : NodeMachine
   now_after = machine_of new 0 closed hand elements
 
+  abbrev moved_last : ℕ
+  moved_last = last_word (went_to new.reserve.keeper.advances)
+
   as_now : entered machine new.reserve new.tables entry ≡ now_after
   as_now = ap (λ (l : List Entry). record (entered machine new.reserve new.tables entry) { entries = l }) (sym d.entry)
-      ∙ ap (λ n. record (entered machine new.reserve new.tables entry) { entries = new.history.entries; taken = n }) (sym d.taken)
+      ∙ ap (λ (l : List ℕ). record (entered machine new.reserve new.tables entry) { entries = new.history.entries; moves = l }) (sym d.moves)
+      ∙ ap (λ n. record (entered machine new.reserve new.tables entry) { entries = new.history.entries; moves = new.history.moves; taken = n }) (sym d.taken)
 
   abbrev q : Persist
   q = new.reserve.store.persist
@@ -266,16 +275,17 @@ module _ (laws : AreKeeping) (old new : Parts) (event : Event) (place : Place) (
     quiet_done e = event_quiet laws machine event d.plan d.tables ready q a.jobs jobs_are e
 
   -- what is shown
-  pub shown_done : shown now_after ≡ with_entry (shown machine) (entry_for (shown machine) place.bearer place.number event a.answer a.jobs) (shown now_after).mark
+  pub shown_done : shown now_after ≡ with_entry (shown machine) (entry_for (shown machine) place.bearer place.number event a.answer a.jobs) moved_last (shown now_after).mark
   shown_done =
       ap (λ (l : List Entry). record (shown now_after) { entries = l }) d.entry
-      ∙ ap (λ n. record (shown now_after) { entries = old.history.entries ++ entry ∷ []; taken = n }) d.taken
-      ∙ ap (λ x. record (shown now_after) { entries = old.history.entries ++ entry ∷ []; taken = old.history.taken; which = x }) d.stored.made
+      ∙ ap (λ (l : List ℕ). record (shown now_after) { entries = old.history.entries ++ entry ∷ []; moves = l }) d.moves
+      ∙ ap (λ n. record (shown now_after) { entries = old.history.entries ++ entry ∷ []; moves = old.history.moves ++ moved_last ∷ []; taken = n }) d.taken
+      ∙ ap (λ x. record (shown now_after) { entries = old.history.entries ++ entry ∷ []; moves = old.history.moves ++ moved_last ∷ []; taken = old.history.taken; which = x }) d.stored.made
 
   -- the tie to the flash
-  pub stands_done : (first : FlashFound) (over : List StoreRecord) → Stands first before over machine → closed ≡ false → Keeps before after
+  pub stands_done : (first : FlashFound) (over : List StoreRecord) → Stands first before over machine → closed ≡ false → Keeps before after → after.reads ≡ before.reads
       → Stands first after over now_after
-  stands_done first over s runs keeps =
+  stands_done first over s runs keeps unread =
       let past : Past = past_now (node_role node_layers) over s.life.told place.fills in
       let h : IsOver before past machine = s.usable runs in
       let planned : IsPlanned past event d.plan d.tables = d.asked.planned past h.before.standing in
@@ -290,7 +300,7 @@ module _ (laws : AreKeeping) (old new : Parts) (event : Event) (place : Place) (
       subst (λ (v : NodeMachine). Stands first after over v) as_now
       (event_stands laws machine event d.plan d.tables first before after over s runs new.reserve new.tables entry planned d.asked.may d.asked.bounded
       d.stored.tables is_entry refl d.few (d.stored.kept past.records h.store) meaning d.stored.published
-      (d.stored.moved ∙ ap (λ (x : Config). went_to old.reserve.keeper.advances ++ rises x d.plan.records) h.before.standing.meaning.config) keeps d.stored.wear)
+      (d.stored.moved ∙ ap (λ (x : Config). went_to old.reserve.keeper.advances ++ rises x d.plan.records) h.before.standing.meaning.config) keeps d.stored.wear unread)
 
 -- An event at which the flash failed.
 
@@ -301,11 +311,12 @@ module _ (laws : AreKeeping) (old new : Parts) (event : Event) (before after : C
 
   pub stopped_now : stopped cut_machine new.reserve new.tables (H.OfEvent event) ≡ machine_of new fills true (H.OfEvent event) elements
   stopped_now = ap (λ (l : List Entry). record (stopped cut_machine new.reserve new.tables (H.OfEvent event)) { entries = l }) (sym d.entries)
-      ∙ ap (λ n. record (stopped cut_machine new.reserve new.tables (H.OfEvent event)) { entries = new.history.entries; taken = n }) (sym d.taken)
+      ∙ ap (λ (l : List ℕ). record (stopped cut_machine new.reserve new.tables (H.OfEvent event)) { entries = new.history.entries; moves = l }) (sym d.moves)
+      ∙ ap (λ n. record (stopped cut_machine new.reserve new.tables (H.OfEvent event)) { entries = new.history.entries; moves = new.history.moves; taken = n }) (sym d.taken)
 
-  pub stands_stopped : (first : FlashFound) (over : List StoreRecord) → Stands first before over cut_machine → closed ≡ false → Keeps before after
+  pub stands_stopped : (first : FlashFound) (over : List StoreRecord) → Stands first before over cut_machine → closed ≡ false → Keeps before after → after.reads ≡ before.reads
       → Stands first after over (machine_of new fills true (H.OfEvent event) elements)
-  stands_stopped first over s runs keeps =
+  stands_stopped first over s runs keeps unread =
       let past : Past = past_now (node_role node_layers) over s.life.told fills in
       let h : IsOver before past cut_machine = s.usable runs in
       let planned : IsPlanned past event d.plan d.tables = d.asked.planned past h.before.standing in
@@ -315,7 +326,7 @@ module _ (laws : AreKeeping) (old new : Parts) (event : Event) (before after : C
         durable = d.halted.durable past.records h.store;
       } in
       subst (λ (v : NodeMachine). Stands first after over v) stopped_now
-      (event_stops laws cut_machine event d.plan d.tables first before after over s runs new.reserve new.tables planned d.asked.may d.asked.bounded cut d.halted.rose keeps d.halted.wear)
+      (event_stops laws cut_machine event d.plan d.tables first before after over s runs new.reserve new.tables planned d.asked.may d.asked.bounded cut d.halted.rose keeps d.halted.wear unread)
 
   -- what is shown
   pub closes_stopped : closed ≡ false → Closes (H.OfEvent event) (shown cut_machine) (shown (machine_of new fills true (H.OfEvent event) elements)) before after
@@ -347,8 +358,10 @@ same_parts old new fills closed hand elements b =
     ∙ ap (λ (l : LogView). machine_of (record new { reserve = old.reserve; tables = old.tables; history = l }) fills closed hand elements) b.history
 
 -- Room for an entry leaves a machine as it was.
-pub reserved_same : (parts : Parts) (log : LogView) (fills : ℕ) (closed : Bool) (hand : Hand) (elements : ℕ) → log.entries ≡ parts.history.entries → log.taken ≡ parts.history.taken
+pub reserved_same : (parts : Parts) (log : LogView) (fills : ℕ) (closed : Bool) (hand : Hand) (elements : ℕ) → log.entries ≡ parts.history.entries → log.moves ≡ parts.history.moves
+    → log.taken ≡ parts.history.taken
     → machine_of (record parts { history = log }) fills closed hand elements ≡ machine_of parts fills closed hand elements
-reserved_same parts log fills closed hand elements entries taken =
-    ap (λ (l : List Entry). record (machine_of parts fills closed hand elements) { entries = l; taken = log.taken }) entries
+reserved_same parts log fills closed hand elements entries moves taken =
+    ap (λ (l : List Entry). record (machine_of parts fills closed hand elements) { entries = l; moves = log.moves; taken = log.taken }) entries
+    ∙ ap (λ (l : List ℕ). record (machine_of parts fills closed hand elements) { moves = l; taken = log.taken }) moves
     ∙ ap (λ n. record (machine_of parts fills closed hand elements) { taken = n }) taken

@@ -7,8 +7,9 @@ use Rattle.event_plans.specs.Memory.{AreNodeTablesOf, IsFitFor, NodeTablesView, 
 use Rattle.event_plans.specs.Plans.{IsPlanned, IsStanding, LeavesConfig, insight_in, of_own}
 use Rattle.event_plans.specs.declared.plan.OwnPlan.{OwnPlan}
 use Rattle.event_records.specs.Putting.{AreMoves, ArePuttable}
-use Rattle.flash_model.specs.Chip.{Chip}
-use Rattle.machine_contract.specs.Moved.{rises, went_to}
+use Rattle.flash_model.specs.Chip.{Chip, count_of}
+use Rattle.machine_contract.specs.Moves.{rises}
+use Rattle.seq_word.specs.Seen.{last_word, went_to}
 use Rattle.machine_contract.specs.Ranges.{IsEvent}
 use Rattle.machine_contract.specs.declared.answers.Answered.{Answered}
 use Rattle.machine_contract.specs.declared.answers.Hand.{Hand}
@@ -41,6 +42,7 @@ machine_of parts fills closed hand elements = record {
   reserve = parts.reserve;
   tables = parts.tables;
   entries = parts.history.entries;
+  moves = parts.history.moves;
   taken = parts.history.taken;
   fills = fills;
   closed = closed;
@@ -92,7 +94,7 @@ pub record AreStored (items : List StoreRecord) (old new : Parts) (before after 
   pub tables : (past : Past) → AreNodeTablesOf old.tables past → AreNodeTablesOf new.tables past
   pub models : new.tables.models ≡ old.tables.models
   -- program and erase calls were made at most as many as they cost
-  pub wear : CostsAndUses old.reserve.store.journal.used (length items) before.changes after.changes
+  pub wear : CostsAndUses old.reserve.store.journal.used (length items) (count_of before) (count_of after)
       new.reserve.store.journal.used
 
 -- The flash failed while records were stored: each image has a front of them behind those of before.
@@ -103,7 +105,7 @@ pub record AreHalted (items : List StoreRecord) (old new : Parts) (before after 
   pub durable : (records : List StoreRecord) → IsStoreOf before old.reserve.store records
       → IsDurable after new.reserve.keeper.mark
   pub made : new.reserve.keeper.which ≡ old.reserve.keeper.which
-  pub wear : CostsAtMost old.reserve.store.journal.used (length items) before.changes after.changes
+  pub wear : CostsAtMost old.reserve.store.journal.used (length items) (count_of before) (count_of after)
 
 -- the parts with the tables that a plan leaves
 abbrev pub planned_parts : Parts → NodeTablesView → Parts
@@ -131,6 +133,8 @@ pub record IsDone (old new : Parts) (event : Event) (place : Place) (before afte
         answer = answered.answer;
         jobs = answered.jobs;
       }) ∷ []
+  -- behind it the word that the counter was moved to last
+  pub moves : new.history.moves ≡ old.history.moves ++ last_word (went_to new.reserve.keeper.advances) ∷ []
   pub taken : new.history.taken ≡ old.history.taken
   pub among : answered.at ≡ length old.history.entries
   pub few : length old.history.entries + 1 < 2 ^ 32
@@ -153,6 +157,8 @@ pub record IsActed (old new : Parts) (event : Event) (place : Place) (answered :
         answer = answered.answer;
         jobs = answered.jobs;
       }) ∷ []
+  -- behind it the word that the counter was moved to last
+  pub moves : new.history.moves ≡ old.history.moves ++ last_word (went_to new.reserve.keeper.advances) ∷ []
   pub taken : new.history.taken ≡ old.history.taken
   pub among : answered.at ≡ length old.history.entries
   pub few : length old.history.entries + 1 < 2 ^ 32
@@ -164,6 +170,7 @@ pub record IsCutShort (old new : Parts) (event : Event) (before after : Chip) : 
   pub asked : IsAsked old event plan tables
   pub halted : AreHalted plan.records (planned_parts old tables) new before after
   pub entries : new.history.entries ≡ old.history.entries
+  pub moves : new.history.moves ≡ old.history.moves
   pub taken : new.history.taken ≡ old.history.taken
 
 -- nothing changed

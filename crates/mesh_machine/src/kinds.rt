@@ -55,6 +55,7 @@ fn hear<F: Flash>(
         (IsDone parts.old parts.new (E.Net octets.now) pending.entry.place (F.chip flash.old) (F.chip flash.new)) }
     ensures stopped { IfErr result
         (IsStopped F.chip (E.Net octets.now) parts.old parts.new flash.old flash.new) }
+    ensures unread { (F.chip flash.new).reads ≡ (F.chip flash.old).reads }
     ensures frame { Keeps (F.chip flash.old) (F.chip flash.new) }
 {
     let Pending {
@@ -79,7 +80,9 @@ fn hear<F: Flash>(
             }
             let p = parts.reserve.store.persist();
             let jobs = jobs_of_pdu(draft, p, parts.tables.keys(), &plan);
-            Ok(enter(&mut parts.history, place, event, plan.answer, jobs))
+            let history = &mut parts.history;
+            let keeper = &parts.reserve.keeper;
+            Ok(enter(history, keeper, place, event, plan.answer, jobs))
         }
         Err(_) => Err(Stop::Memory),
     }
@@ -102,6 +105,7 @@ fn hear_beacon<F: Flash>(
         (IsDone parts.old parts.new (E.Bcn octets.now) pending.entry.place (F.chip flash.old) (F.chip flash.new)) }
     ensures stopped { IfErr result
         (IsStopped F.chip (E.Bcn octets.now) parts.old parts.new flash.old flash.new) }
+    ensures unread { (F.chip flash.new).reads ≡ (F.chip flash.old).reads }
     ensures frame { Keeps (F.chip flash.old) (F.chip flash.new) }
 {
     let Pending {
@@ -123,7 +127,9 @@ fn hear_beacon<F: Flash>(
         Err(_) => return Err(Stop::Flash),
     }
     let jobs = jobs_of_beacon(draft);
-    Ok(enter(&mut parts.history, place, event, plan.heard.answer, jobs))
+    let history = &mut parts.history;
+    let keeper = &parts.reserve.keeper;
+    Ok(enter(history, keeper, place, event, plan.heard.answer, jobs))
 }
 
 // Time passed: where nothing is due in it, it is told, and that is all.
@@ -143,6 +149,7 @@ fn tick<F: Flash>(
         (IsDone parts.old parts.new (E.Tick ticks) pending.entry.place (F.chip flash.old) (F.chip flash.new)) }
     ensures stopped { IfErr result
         (IsStopped F.chip (E.Tick ticks) parts.old parts.new flash.old flash.new) }
+    ensures unread { (F.chip flash.new).reads ≡ (F.chip flash.old).reads }
     ensures frame { Keeps (F.chip flash.old) (F.chip flash.new) }
 {
     let Pending {
@@ -159,7 +166,8 @@ fn tick<F: Flash>(
             let answer = Answer::Ticked { now };
             let jobs = draft.finish();
             let history = &mut parts.history;
-            let told = enter(history, place, event, answer, jobs);
+            let keeper = &parts.reserve.keeper;
+            let told = enter(history, keeper, place, event, answer, jobs);
             Ok(told)
         }
         None => {
@@ -172,7 +180,8 @@ fn tick<F: Flash>(
             let p = parts.reserve.store.persist();
             let jobs = jobs_of_tick(draft, p, parts.tables.keys(), &plan);
             let history = &mut parts.history;
-            let answered = enter(history, place, event, plan.answer, jobs);
+            let keeper = &parts.reserve.keeper;
+            let answered = enter(history, keeper, place, event, plan.answer, jobs);
             Ok(answered)
         }
     }
@@ -195,7 +204,9 @@ fn act(parts: &mut Parts, pending: Pending<'_>) -> Answered
     let p = parts.reserve.store.persist();
     let plan = plan_own(&mut parts.tables, p, event);
     let jobs = jobs_of_own(draft, p, parts.tables.keys(), event, &plan);
-    enter(&mut parts.history, place, event, plan.answer, jobs)
+    let history = &mut parts.history;
+    let keeper = &parts.reserve.keeper;
+    enter(history, keeper, place, event, plan.answer, jobs)
 }
 
 /// Handles an event over the parts of a machine, where there is memory for its entry and its jobs. What is known of the reading of a network
@@ -214,6 +225,7 @@ pub(crate) fn handle<F: Flash>(
     ensures done { IfOk result
         (IsDone parts.old parts.new pending.entry.event.now pending.entry.place (F.chip flash.old) (F.chip flash.new)) }
     ensures stopped { IfErr result (IsStopped F.chip pending.entry.event.now parts.old parts.new flash.old flash.new) }
+    ensures unread { (F.chip flash.new).reads ≡ (F.chip flash.old).reads }
     ensures frame { Keeps (F.chip flash.old) (F.chip flash.new) }
 {
     let event = pending.event;

@@ -11,11 +11,12 @@ ghost use Rattle.machine_contract.specs.Ranges.{IsEvent, IsJob, IsQuiet};
 ghost use Rattle.machine_contract.specs.Refused.{IsRefused};
 ghost use Rattle.machine_contract.specs.View.{entry_for, with_entry};
 ghost use Rattle.mesh_machine.specs.Early.{IsCounted, view_now};
-ghost use Rattle.mesh_machine.specs.Machine.{Stands, persist_of, shown};
+ghost use Rattle.mesh_machine.specs.Machine.{Stands, advances_of, persist_of, shown};
 ghost use Rattle.mesh_types.specs.declared.events.Event.TheVariants as E;
 ghost use Rattle.mesh_world.specs.World.{World};
 ghost use Rattle.record_types.specs.declared.records.StoreRecord.{StoreRecord};
 ghost use Rattle.run_definitions.specs.Order.{is_outside};
+ghost use Rattle.seq_word.specs.Seen.{last_word, went_to};
 ghost use Rattle.store_world.specs.Standing.{IsWorldOf};
 
 use crate::state::MeshState;
@@ -106,12 +107,13 @@ impl MeshMachine {
         ensures ok { IfOk result
             (λ r. shown self.new
             ≡ with_entry (shown self.old) (entry_for (shown self.old) bearer number event.now r.answer r.jobs)
-            (shown self.new).mark) }
+            (last_word (went_to (advances_of self.new))) (shown self.new).mark) }
         ensures place { IfOk result (λ r. r.at ≡ length (shown self.old).entries) }
         ensures usable { OnOk result ((shown self.old).closed ≡ false) }
         ensures no_fault { OnOk result ((F.chip flash.new).faults ≡ (F.chip flash.old).faults) }
         ensures jobs { IfOk result (λ r. All (IsJob event.now) r.jobs) }
         ensures quiet { is_outside event.now ≡ false → IfOk result (λ r. All IsQuiet r.jobs) }
+        ensures unread { (F.chip flash.new).reads ≡ (F.chip flash.old).reads }
         ensures steps { (w : World) → IsWorldOf w (persist_of self.old) (persist_of self.old).mark
             → IfOk result (λ r. HasStepped w (persist_of self.old) (persist_of self.new) event.now r.answer) }
         ensures refused { IfErr result
@@ -148,11 +150,12 @@ impl MeshMachine {
         ensures ok { IfOk result
             (λ r. shown self.new
             ≡ with_entry (shown self.old) (entry_for (shown self.old) bearer number (E.Net octets.now) r.answer r.jobs)
-            (shown self.new).mark) }
+            (last_word (went_to (advances_of self.new))) (shown self.new).mark) }
         ensures place { IfOk result (λ r. r.at ≡ length (shown self.old).entries) }
         ensures usable { OnOk result ((shown self.old).closed ≡ false) }
         ensures no_fault { OnOk result ((F.chip flash.new).faults ≡ (F.chip flash.old).faults) }
         ensures jobs { IfOk result (λ r. All (IsJob (E.Net octets.now)) r.jobs) }
+        ensures unread { (F.chip flash.new).reads ≡ (F.chip flash.old).reads }
         ensures refused { IfErr result
             (IsRefused F.chip (Hand.OfEvent (E.Net octets.now)) (shown self.old) (shown self.new) flash.old flash.new) }
         ensures closed { (shown self.old).closed ≡ true → result ≡ Err Stop.Closed }

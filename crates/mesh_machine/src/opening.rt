@@ -3,7 +3,7 @@
 
 ghost use Rattle.std.specs.Prelude.{◌≡◌, ◌≤◌, drop, false, List, [], IfErr, IfOk, IfSome};
 ghost use Rattle.early_reading.specs.Views.{IsRead, read_before};
-ghost use Rattle.flash_model.specs.Arming.{Begins};
+ghost use Rattle.flash_model.specs.Arming.{Begins, Erases, Programs};
 ghost use Rattle.flash_model.specs.Chip.{IsFresh, Keeps};
 ghost use Rattle.machine_contract.specs.Opening.{IsNodeFlash, IsUnwritten, MigratesOnly};
 ghost use Rattle.machine_contract.specs.Refused.{IsStartCause, WasReset};
@@ -11,7 +11,7 @@ ghost use Rattle.machine_contract.specs.Started.{IsStarted};
 ghost use Rattle.event_plans.specs.Memory.{AreNodeTablesOf};
 ghost use Rattle.machine_standing.specs.Ties.{IsNodeStore};
 ghost use Rattle.machine_ties.specs.Ties.{opened};
-ghost use Rattle.mesh_machine.specs.Machine.{Stands, persist_of, shown};
+ghost use Rattle.mesh_machine.specs.Machine.{Stands, advances_of, persist_of, shown};
 ghost use Rattle.mesh_types.specs.declared.events.Event.TheVariants as E;
 ghost use Rattle.event_definitions.specs.Role.{node_role};
 ghost use Rattle.next_due.specs.Quiet.{IsQuiet};
@@ -41,7 +41,7 @@ use mesh_types::events::Event;
 use mesh_types::history::Entry;
 use node_store::Store;
 use seq_reserve::Reserve;
-use seq_word::{Dry, Keeper, Numbers};
+use seq_word::{Drawer, Dry, Keeper, Numbers};
 use std::alloc::{AllocError, Global};
 
 // Opens a life over a store that was mounted, with memory for so many entries. It stands apart, so that no caller has a place for what it boxes.
@@ -138,7 +138,10 @@ impl MeshMachine {
         ensures writes { MigratesOnly (F.chip flash.old) (F.chip flash.new) }
         ensures reset { WasReset (F.chip flash.old) → IsUnwritten (F.chip flash.old) (F.chip flash.new) }
         ensures calls { HasFormat 1 (F.chip flash.old).now
-            → IfOk result (λ s. Begins (compaction (persist_of s.machine)) (F.chip flash.old) (F.chip flash.new)) }
+            → IfOk result
+            (λ s. Begins (compaction (persist_of s.machine)).calls (F.chip flash.old) (F.chip flash.new)
+            × Erases (compaction (persist_of s.machine)).erases (F.chip flash.old) (F.chip flash.new)
+            × Programs (compaction (persist_of s.machine)).octets (F.chip flash.old) (F.chip flash.new)) }
         ensures frame { Keeps (F.chip flash.old) (F.chip flash.new) }
     {
         let store = mount_node(flash)?;
@@ -158,7 +161,7 @@ impl Machine for MeshMachine {
 
     ghost view = { shown };
 
-    ghost advances = { λ m. m.state.value.reserve.keeper.advances };
+    ghost advances = { advances_of };
 
     ghost stands = { Stands };
 
@@ -203,6 +206,10 @@ impl Machine for MeshMachine {
         early: &ReadBefore<'_, Reader, Reading>,
     ) -> Result<Answered, Stop> {
         self.handle_event(n, flash, bearer, number, event, early)
+    }
+
+    fn inform(&mut self, n: &Numbers, d: &mut Drawer) {
+        self.state.inform(n, d);
     }
 
     fn refill<F: Flash>(&mut self, n: &Numbers, flash: &mut F, dry: Dry) -> Result<u64, Stop> {

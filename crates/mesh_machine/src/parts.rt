@@ -55,6 +55,7 @@ pub(crate) fn store<F: Flash>(
     ensures published { IsPublished parts.new.reserve.store parts.new.reserve.keeper }
     ensures made { parts.new.reserve.keeper.which ≡ parts.old.reserve.keeper.which }
     ensures history { parts.new.history ≡ parts.old.history }
+    ensures unread { (F.chip flash.new).reads ≡ (F.chip flash.old).reads }
     ensures frame { Keeps (F.chip flash.old) (F.chip flash.new) }
 {
     store_records(&mut parts.reserve, n, flash, records)?;

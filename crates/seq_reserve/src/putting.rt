@@ -2,6 +2,7 @@
 #![tactic(auto)]
 
 ghost use Rattle.std.specs.Prelude.{◌≡◌, ℕ, ◌+◌, List, [], ◌∷◌, true, false, Err, OnOk, OnErr};
+ghost use Rattle.flash_model.specs.Chip.{count_of};
 ghost use Rattle.mesh_world.specs.World.{World};
 ghost use Rattle.mesh_world.specs.World.WorldStep.{Reserve};
 ghost use Rattle.node_records.specs.Meaning.{IsSaid};
@@ -47,9 +48,9 @@ pub(crate) fn put_numbers<F: Flash>(
         → OnOk result (IsDurable (F.chip flash.new) store.new.persist.mark) }
     ensures costs { CostsCalls (calls_of store.old) result (F.chip flash.old) (F.chip flash.new) }
     ensures wear { OnOk result
-        (CostsAndUses store.old.journal.used 1 (F.chip flash.old).changes (F.chip flash.new).changes
+        (CostsAndUses store.old.journal.used 1 (count_of (F.chip flash.old)) (count_of (F.chip flash.new))
         store.new.journal.used) }
-    ensures most_wear { CostsAtMost store.old.journal.used 1 (F.chip flash.old).changes (F.chip flash.new).changes }
+    ensures most_wear { CostsAtMost store.old.journal.used 1 (count_of (F.chip flash.old)) (count_of (F.chip flash.new)) }
     ensures leaves { LeavesFlash result (F.chip flash.old) (F.chip flash.new) }
 {
     store.put(flash, item)?;

@@ -2,6 +2,7 @@
 #![tactic(auto)]
 
 ghost use Rattle.std.specs.Prelude.{◌≡◌, ◌≢◌, ℕ, ◌+◌, ◌*◌, ◌^◌, ◌<◌, ◌≤◌, List, [], ◌∷◌, ◌++◌, true, false, Ok, Err, IfOk, OnOk, OnErr};
+ghost use Rattle.flash_model.specs.Chip.{count_of};
 ghost use Rattle.mesh_base.specs.IvState.{HasTransmit, transmit_of};
 ghost use Rattle.mesh_world.specs.World.{World};
 ghost use Rattle.node_records.specs.Tables.{config_in};
@@ -10,7 +11,7 @@ ghost use Rattle.node_store.specs.Tie.{IsPut, IsStoreOf};
 ghost use Rattle.node_store.specs.Writing.{CostsCalls, CutLeaves, FailsAtFlash, LeavesFlash, OnlyAnswers, Puts};
 ghost use Rattle.record_types.specs.declared.records.StoreRecord.{StoreRecord};
 ghost use Rattle.seq_reserve.specs.Reserving.{first_word, IsDurable, IsPublished, moving, refilling};
-ghost use Rattle.seq_word.specs.Seen.{fresh};
+ghost use Rattle.seq_word.specs.Seen.{fresh, went_to};
 ghost use Rattle.seq_word.specs.Word.{seq_of};
 ghost use Rattle.store_definitions.specs.Numbers.{fill_of, moved};
 ghost use Rattle.store_definitions.specs.Wear.{CostsAndUses, CostsAtMost};
@@ -50,6 +51,16 @@ impl Reserve {
         let mark = store.persist().mark;
         let (numbers, keeper, drawer) = Numbers::start(alloc, mark)?;
         Ok((Reserve { store, keeper }, numbers, drawer))
+    }
+
+    /// Tells a seat that draws where the keeper has moved the counter to so far: `inform` of `seq_word`.
+    pub fn inform(&mut self, n: &Numbers, d: &mut Drawer)
+        requires made { self.old.keeper.which ≡ n.now.which }
+        requires drawer_made { d.old.which ≡ n.now.which }
+        ensures same { self.new ≡ self.old }
+        ensures informed { d.new ≡ record d.old { informed = d.old.informed ++ went_to self.old.keeper.advances } }
+    {
+        n.inform(&mut self.keeper, d);
     }
 
     /// Reserves 256 numbers more where the mark that a draw reached is the keeper's: a mark that much higher becomes durable under the stored
@@ -114,10 +125,10 @@ impl Reserve {
             → CostsCalls (calls_of self.old.store) result (F.chip flash.old) (F.chip flash.new) }
         ensures wear { dry.mark ≡ self.old.keeper.mark
             → OnOk result
-            (CostsAndUses self.old.store.journal.used 1 (F.chip flash.old).changes (F.chip flash.new).changes
+            (CostsAndUses self.old.store.journal.used 1 (count_of (F.chip flash.old)) (count_of (F.chip flash.new))
             self.new.store.journal.used) }
-        ensures most_wear { CostsAtMost self.old.store.journal.used 1 (F.chip flash.old).changes
-            (F.chip flash.new).changes }
+        ensures most_wear { CostsAtMost self.old.store.journal.used 1 (count_of (F.chip flash.old))
+            (count_of (F.chip flash.new)) }
         ensures leaves { LeavesFlash result (F.chip flash.old) (F.chip flash.new) }
         // for the next call
         ensures published { IsPublished self.new.store self.new.keeper }
@@ -190,10 +201,10 @@ impl Reserve {
         // the calls of one record put
         ensures costs { CostsCalls (calls_of self.old.store) result (F.chip flash.old) (F.chip flash.new) }
         ensures wear { OnOk result
-            (CostsAndUses self.old.store.journal.used 1 (F.chip flash.old).changes (F.chip flash.new).changes
+            (CostsAndUses self.old.store.journal.used 1 (count_of (F.chip flash.old)) (count_of (F.chip flash.new))
             self.new.store.journal.used) }
-        ensures most_wear { CostsAtMost self.old.store.journal.used 1 (F.chip flash.old).changes
-            (F.chip flash.new).changes }
+        ensures most_wear { CostsAtMost self.old.store.journal.used 1 (count_of (F.chip flash.old))
+            (count_of (F.chip flash.new)) }
         ensures leaves { LeavesFlash result (F.chip flash.old) (F.chip flash.new) }
         // for the next call
         ensures published { IsPublished self.new.store self.new.keeper }

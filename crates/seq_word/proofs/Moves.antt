@@ -1,10 +1,10 @@
 -- Each step keeps the running rule.
 use Rattle.std.proofs.Common.{◌≡◌, ◌≢◌, ◌⊎◌, ℕ, zero, suc, ◌+◌, ◌-◌, ◌%◌, ◌<◌, ◌≤◌, Bool, true, false, true≢false, List, [], ◌∷◌, ◌++◌, set, refl, sym, ap, ◌∙◌, subst, ⊎_elim, inl, inr, arith}
-use Rattle.std.specs.Prelude.{◌==◌, ◌||◌, ◌&&◌, nat_le, nat_lt, ◌^◌, cond, max, slice_index, All, sum_by}
+use Rattle.std.specs.Prelude.{◌==◌, ◌||◌, ◌&&◌, nat_le, nat_lt, ◌^◌, cond, max, slice_index, All, map, sum_by}
 use Rattle.std.specs.List.{Contains}
 use Rattle.std.proofs.lemmas.List.{append-nil}
 use Rattle.std.proofs.lemmas.List.Sums.{sum_by-append, sum_by_push}
-use Rattle.std.proofs.lemmas.List.Elements.{All-append, All-push, All-nil, All-tail, All-weaker, All-contains}
+use Rattle.std.proofs.lemmas.List.Elements.{All-append, All-push, All-nil, All-tail, All-map, All-weaker, All-contains}
 use mathlib.Core.Option.{some, none, some-ne-none, some-injective}
 use native.Mathlib.Decide.{dec_le, ℕ_discrete}
 use prog.Atomic.{either}
@@ -15,7 +15,7 @@ use Rattle.seq_word.specs.declared.looks.Look.{Look}
 use Rattle.seq_word.specs.declared.looks.Look.TheVariants as saw
 use Rattle.seq_word.specs.declared.rule.View.{View}
 use Rattle.seq_word.specs.Word.{IsWord, seq_of}
-use Rattle.seq_word.specs.Rule.{times, once_below, passed_over, gone, drawn_here, IsReached, HasReached, IsEndOf, IsOver, IsPast, IsWithin, Fits, Stands, Ruled, nobody, first_keeper, without_parts, first_drawer, part_of, keeping, split_off, witness_of, both, seeing, drawing, publishing, lifting, advancing, IsLastSeen, OnlyKnows, SeesMark, SeesNext, Draws, Publishes, Lifts, Advances, DrawnOnce}
+use Rattle.seq_word.specs.Rule.{times, once_below, passed_over, gone, drawn_here, IsReached, HasReached, IsEndOf, IsOver, IsPast, IsWithin, Fits, Stands, Ruled, nobody, first_keeper, without_parts, first_drawer, part_of, keeping, split_off, witness_of, moves_of, both, seeing, drawing, publishing, lifting, advancing, IsLastSeen, OnlyKnows, SeesMark, SeesNext, Draws, Publishes, Lifts, Advances, DrawnOnce}
 use Rattle.seq_word.proofs.Sums.{sum_by_at, share_of_one, share_of_two, share_alone, part_of-one, part_of-none, once_below-le, once_below_more, once_below-max, same-one, times_contains}
 
 -- the last two of a list
@@ -36,6 +36,7 @@ fits_later o n m k n' m' k' by v h up up' keeper = record {
   noted = λ i d l. omega (arith, h.noted i d l);
   looks = All-weaker (IsWithin n m) (IsWithin n' m') (within_later n m n' m' up up') v.looks h.looks;
   known = All-weaker (IsWithin n m) (IsWithin n' m') (within_later n m n' m' up up') v.known h.known;
+  informed = λ i d l. omega (arith, h.informed i d l);
   advances = λ i d l. omega (arith, h.advances i d l);
   keeps = λ is. let was = h.keeps is in let now = keeper was.0 in (now.0, was.1 ∙ now.1);
   near = λ is still. let now = keeper (h.keeps is).0 in omega (arith, h.near is still, now.1);
@@ -122,6 +123,7 @@ fits_seeing o n m k by v look within fits = record {
   noted = fits.noted;
   looks = All-push (IsWithin n m) v.looks look fits.looks within;
   known = fits.known;
+  informed = fits.informed;
   advances = fits.advances;
   keeps = fits.keeps;
   near = fits.near;
@@ -140,6 +142,7 @@ over o n m k by v fits = record {
   noted = fits.noted;
   looks = All-weaker (IsWithin n m) (IsPast n) (past n m) v.looks fits.looks;
   known = All-weaker (IsWithin n m) (IsPast n) (past n m) v.known fits.known;
+  informed = fits.informed;
 }
 
 -- a look at either word
@@ -186,6 +189,7 @@ drawn_now o n m k views id v h at is below unspent =
       noted = later.noted;
       looks = later.looks;
       known = later.known;
+      informed = later.informed;
       advances = later.advances;
       keeps = later.keeps;
       near = later.near;
@@ -237,6 +241,7 @@ marks o n m k views id v mark moving h at is up word near =
       noted = fits.noted;
       looks = All-weaker (IsWithin n m) (IsWithin n mark) (within_later n m n mark (omega arith) rises) v.looks fits.looks;
       known = All-weaker (IsWithin n m) (IsWithin n mark) (within_later n m n mark (omega arith) rises) v.known fits.known;
+      informed = fits.informed;
       advances = fits.advances;
       keeps = λ _. (keeper.0, refl);
       near = λ _ still. near still;
@@ -290,6 +295,7 @@ advances {S} o slots id me to is within word first =
             noted = later.noted;
             looks = later.looks;
             known = later.known;
+            informed = later.informed;
             advances = All-push (λ a. a.1 ≤ n') v.advances (n, to) later.advances (omega arith);
             keeps = later.keeps;
             near = λ _ _. omega (arith, keeper.1);
@@ -320,6 +326,7 @@ fits_nobody o n m k by = record {
   noted = All-nil (λ x. x < n);
   looks = All-nil (IsWithin n m);
   known = All-nil (IsWithin n m);
+  informed = All-nil (λ x. x ≤ n);
   advances = All-nil (λ a. a.1 ≤ n);
   keeps = λ e. absurd (off e);
   near = λ e. absurd (off e);
@@ -345,6 +352,7 @@ begins {S} first word = record {
       noted = none.noted;
       looks = none.looks;
       known = none.known;
+      informed = none.informed;
       advances = none.advances;
       keeps = λ _. (refl, refl);
       near = λ _ _. omega arith;
@@ -426,6 +434,7 @@ fits_drawer o n m k by parts noted known below within =
       noted = below;
       looks = none.looks;
       known = within;
+      informed = none.informed;
       advances = none.advances;
       keeps = none.keeps;
       near = none.near;
@@ -444,6 +453,26 @@ fits_witness o n m k by known within =
       noted = none.noted;
       looks = none.looks;
       known = within;
+      informed = none.informed;
+      advances = none.advances;
+      keeps = none.keeps;
+      near = none.near;
+      plain = none.plain;
+      idle = none.idle;
+    }
+
+-- a seat that was told where the counter was moved to, alone
+fits_told : (o n m k by : ℕ) (advances : List (ℕ × ℕ)) → All (λ (a : ℕ × ℕ). a.1 ≤ n) advances → Fits o n m k by (record nobody { informed = map (λ (a : ℕ × ℕ). a.1) advances })
+fits_told o n m k by advances moved =
+    let none = fits_nobody o n m k by in
+    record {
+      since = none.since;
+      drawn = none.drawn;
+      raised = none.raised;
+      noted = none.noted;
+      looks = none.looks;
+      known = none.known;
+      informed = All-map (λ x. x ≤ n) (λ (a : ℕ × ℕ). a.1) advances moved;
       advances = none.advances;
       keeps = none.keeps;
       near = none.near;
@@ -460,6 +489,7 @@ fits_parts o n m k by parts v fits = record {
   noted = fits.noted;
   looks = fits.looks;
   known = fits.known;
+  informed = fits.informed;
   advances = fits.advances;
   keeps = fits.keeps;
   near = fits.near;
@@ -525,6 +555,28 @@ witnesses {S} o id v is s h at =
           (λ draws _. absurd (off draws));
     }
 
+-- a seat that tells where the counter was moved to is split off any seat
+pub informs : {S : Type 0} (o id : ℕ) (v : View) → Splits {S = S} (Ruled o) id v v (moves_of v)
+informs {S} o id v s h at =
+    let st = h.stands in
+    let fits = st.each id v at in
+    record {
+      next = h.next;
+      mark = h.mark;
+      keeper = h.keeper;
+      words = h.words;
+      stands = cuts o h.next h.mark h.keeper s.views id v v (moves_of v) st at
+          (λ x. omega arith)
+          fits
+          (λ by. fits_told o h.next h.mark h.keeper by v.advances fits.advances)
+          refl
+          refl
+          refl
+          (omega arith)
+          (λ is empty. omega (arith, st.lost id v at is empty))
+          (λ draws _. absurd (off draws));
+    }
+
 -- the first drawer's seat is split off the keeper's
 pub opens : {S : Type 0} (o id : ℕ) (v : View) → v.draws ≡ false → 0 < v.parts → Splits {S = S} (Ruled o) id v (without_parts v) (first_drawer v)
 opens {S} o id v not some_part s h at =
@@ -561,6 +613,7 @@ glues o n m k k' views id other v w h at apart there mine near others =
       noted = All-append (λ x. x < n) v.noted w.noted fits.noted theirs.noted;
       looks = All-append (IsWithin n m) v.looks w.looks fits.looks theirs.looks;
       known = All-append (IsWithin n m) v.known w.known fits.known theirs.known;
+      informed = All-append (λ x. x ≤ n) v.informed w.informed fits.informed theirs.informed;
       advances = All-append (λ a. a.1 ≤ n) v.advances w.advances fits.advances theirs.advances;
       keeps = mine;
       near = near;
@@ -689,6 +742,7 @@ both_knows v w only = ap (both v) only ∙ alone (omega arith) where
     noted = append-nil v.noted i;
     looks = append-nil v.looks i;
     known = v.known ++ w.known;
+    informed = append-nil v.informed i;
   }
 
 pub both_keeps : (v w : View) → w.keeps ≡ true → (both v w).keeps ≡ true

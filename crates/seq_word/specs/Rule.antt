@@ -1,6 +1,6 @@
 -- What the two words and the seats at them keep between any two atomic steps, and what each step does to the view of its seat.
 -- Word 0 is the counter: the next number to draw. Word 1 is the mark: no number at or above it is drawn.
-use Rattle.std.specs.Prelude.{◌≡◌, ◌≢◌, ◌⊎◌, ℕ, ◌+◌, ◌-◌, ◌^◌, ◌<◌, ◌≤◌, ◌==◌, ◌&&◌, ◌||◌, nat_lt, nat_le, if◌then◌else◌, true, false, List, [], ◌∷◌, ◌++◌, All, slice_index, sum_by, count_by, ⊤}
+use Rattle.std.specs.Prelude.{◌≡◌, ◌≢◌, ◌⊎◌, ℕ, ◌+◌, ◌-◌, ◌^◌, ◌<◌, ◌≤◌, ◌==◌, ◌&&◌, ◌||◌, nat_lt, nat_le, if◌then◌else◌, true, false, List, [], ◌∷◌, ◌++◌, All, map, slice_index, sum_by, count_by, ⊤}
 use Rattle.std.specs.List.{Contains}
 use mathlib.Core.Option.{some}
 use lib.ListN.{get_elem?}
@@ -69,6 +69,8 @@ pub record Fits (opened next mark keeper by : ℕ) (v : View) : Type 0 where
   pub looks : All (IsWithin next mark) v.looks
   -- so is what looks found at the seat from which this one was split off
   pub known : All (IsWithin next mark) v.known
+  -- the counter has not gone below where the keeper had moved it to, as this seat was told
+  pub informed : All (λ x. x ≤ next) v.informed
   -- the counter has not gone below where the keeper moved it to
   pub advances : All (λ a. a.1 ≤ next) v.advances
   -- only the keeper's seat keeps a mark, and that is the mark
@@ -119,6 +121,7 @@ nobody =
       noted = [];
       looks = [];
       known = [];
+      informed = [];
     }
 
 -- the keeper's seat at the start, with all parts
@@ -155,6 +158,10 @@ split_off v =
 abbrev pub witness_of : View → View
 witness_of v = record nobody { known = v.known ++ v.looks }
 
+-- what a seat knows that is split off the keeper's to tell where the counter was moved to. It never draws
+abbrev pub moves_of : View → View
+moves_of v = record nobody { informed = map (λ (a : ℕ × ℕ). a.1) v.advances }
+
 -- two seats as one, which keeps the mark where one of them did
 abbrev pub both : View → View → View
 both v w = record {
@@ -169,6 +176,7 @@ both v w = record {
   noted = v.noted ++ w.noted;
   looks = v.looks ++ w.looks;
   known = v.known ++ w.known;
+  informed = v.informed ++ w.informed;
 }
 
 abbrev pub seeing : View → Look → View
@@ -196,12 +204,14 @@ pub record IsLastSeen (word : ℕ) (v : View) : Type 0 where
   pub looks : v.looks ≡ earlier ++ saw.Mark mark ∷ saw.Counter word ∷ []
   pub below : word < mark
 
--- The word is above all that was drawn or noted at the seat, and not below what looks found in the counter there, or are known to have found.
+-- The word is above all that was drawn or noted at the seat, and not below what looks found in the counter there, or are known to have found, or
+-- where the counter is known to have been moved to.
 pub record IsOver (word : ℕ) (v : View) : Type 0 where
   pub drawn : All (λ x. x < word) v.drawn
   pub noted : All (λ x. x < word) v.noted
   pub looks : All (IsPast word) v.looks
   pub known : All (IsPast word) v.known
+  pub informed : All (λ x. x ≤ word) v.informed
 
 module _ {S : Type 0} where
   -- a load of the mark: it is noted as seen
@@ -243,6 +253,7 @@ pub record OnlyKeeps (v : View) : Type 0 where
   pub raised : v.raised ≡ []
   pub noted : v.noted ≡ []
   pub looks : v.looks ≡ []
+  pub informed : v.informed ≡ []
 
 -- a seat that draws, and has neither kept the mark nor advanced the counter
 pub record OnlyDraws (v : View) : Type 0 where

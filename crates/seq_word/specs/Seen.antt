@@ -1,5 +1,5 @@
 -- What contracts see of the two words and of the seats at them, and what one try to draw tells.
-use Rattle.std.specs.Prelude.{◌≡◌, ℕ, ◌+◌, ◌*◌, ◌^◌, ◌<◌, ◌≤◌, List, [], ◌∷◌, ◌++◌, All, ⊤}
+use Rattle.std.specs.Prelude.{◌≡◌, ℕ, ◌+◌, ◌*◌, ◌^◌, ◌<◌, ◌≤◌, List, [], ◌∷◌, ◌++◌, All, fold, map, ⊤}
 use Rattle.atomic_table.specs.Seated.{TableId}
 use Rattle.mesh_base.specs.declared.pair.Pair.{Pair}
 use Rattle.seq_word.specs.declared.looks.Look.{Look}
@@ -18,8 +18,8 @@ pub record NumbersView : Type 0 where
   pub opened : ℕ
 
 -- A seat that draws: at which words, the words that it drew, what each draw left in the counter, the words that were drawn
--- before it was split off, its looks at the two words in their order, those that had been made before it was split off, and its parts of the
--- 1,024 that the drawers of these words have between them
+-- before it was split off, its looks at the two words in their order, those that had been made before it was split off, where it was told that the
+-- keeper had moved the counter to, and its parts of the 1,024 that the drawers of these words have between them
 pub record DrawerView : Type 0 where
   pub which : TableId
   pub drawn : List ℕ
@@ -27,12 +27,13 @@ pub record DrawerView : Type 0 where
   pub noted : List ℕ
   pub looks : List Look
   pub known : List Look
+  pub informed : List ℕ
   pub parts : ℕ
 
 -- a seat that has drawn and seen nothing, where these words had been drawn before it was split off
 abbrev pub fresh : TableId → List ℕ → ℕ → DrawerView
 fresh which noted parts =
-    record { which = which; drawn = []; raised = []; noted = noted; looks = []; known = []; parts = parts }
+    record { which = which; drawn = []; raised = []; noted = noted; looks = []; known = []; informed = []; parts = parts }
 
 -- one that was split off another, so that it knows what that one saw
 abbrev pub split_from : DrawerView → DrawerView
@@ -54,12 +55,13 @@ pub record ClosedView : Type 0 where
   pub advances : List (ℕ × ℕ)
 
 -- The word is above all that was drawn at the seat, and all that had been drawn before it was split off; and not below what a look found in
--- the counter, at the seat or before it was split off.
+-- the counter, at the seat or before it was split off, nor below where the keeper had moved the counter to, as the seat was told.
 pub record IsAbove (v : DrawerView) (word : ℕ) : Type 0 where
   pub drawn : All (λ x. x < word) v.drawn
   pub noted : All (λ x. x < word) v.noted
   pub looks : All (IsPast word) v.looks
   pub known : All (IsPast word) v.known
+  pub informed : All (λ x. x ≤ word) v.informed
 
 -- the list begins with these looks
 pub record IsPrefix (front list : List Look) : Type 0 where
@@ -95,6 +97,7 @@ pub record SameDrawn (v w : DrawerView) : Type 0 where
   pub raised : w.raised ≡ v.raised
   pub noted : w.noted ≡ v.noted
   pub known : w.known ≡ v.known
+  pub informed : w.informed ≡ v.informed
   pub parts : w.parts ≡ v.parts
 
 -- between v and w these tries were lost, the latest first, and nothing else was done
@@ -109,3 +112,11 @@ AfterLost Done v w = (tries : List (ℕ × ℕ)) × (u : DrawerView) × LostTrie
 abbrev pub miss_of : DrawStop → Miss
 miss_of (stopped.Spent iv) = missed.Spent iv
 miss_of (stopped.Dry dry) = missed.Dry dry
+
+-- the words that the counter was moved to
+abbrev pub went_to : List (ℕ × ℕ) → List ℕ
+went_to advances = map (λ (move : ℕ × ℕ). move.1) advances
+
+-- the last of these words, 0 where there is none
+abbrev pub last_word : List ℕ → ℕ
+last_word words = fold (λ before word. word) 0 words

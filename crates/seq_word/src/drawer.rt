@@ -8,7 +8,8 @@ use std::marker::Model;
 /// A seat that draws, at the words that it was made with. It takes no memory. Hand each thread that draws a seat of its own.
 ///
 /// A contract sees what was drawn here and what that left in the counter, what had been drawn where this seat was split
-/// off, the looks at the two words in their order, those that had been made where this seat was split off, and its parts of the 1,024.
+/// off, the looks at the two words in their order, those that had been made where this seat was split off, where it was told that the keeper had moved
+/// the counter to, and its parts of the 1,024.
 #[derive(Drop)]
 pub struct Drawer {
     pub(crate) seat: Seat<u8, View>,
@@ -28,6 +29,7 @@ impl Model for Drawer {
       noted = v.noted;
       looks = v.looks;
       known = v.known;
+      informed = v.informed;
       parts = v.parts;
     } };
 

@@ -6,7 +6,7 @@ ghost use Rattle.mesh_base.specs.Pairs.{word_of};
 ghost use Rattle.seq_word.specs.Word.{seq_of, IsWord};
 ghost use Rattle.seq_word.specs.declared.looks.Look.TheVariants as saw;
 ghost use Rattle.seq_word.specs.Rule.{IsEndOf, IsWithin, times, once_below, passed_over};
-ghost use Rattle.seq_word.specs.Seen.{fresh, IsAbove, IsEndAbove, IsPrefix, Finds, HasCause, SameDrawn, AfterLost, miss_of, split_from};
+ghost use Rattle.seq_word.specs.Seen.{fresh, IsAbove, IsEndAbove, IsPrefix, Finds, HasCause, SameDrawn, AfterLost, miss_of, split_from, went_to};
 
 use crate::closed::Closed;
 use crate::drawer::Drawer;
@@ -14,8 +14,8 @@ use crate::dry::Dry;
 use crate::keeper::Keeper;
 use crate::miss::{DrawStop, Miss};
 use crate::rule::{
-    Advances, COUNTER, Draws, Lifts, MARK, Opening, Opens, Publishes, Seats, SeesMark, SeesNext,
-    Witnesses, Words,
+    Advances, COUNTER, Draws, Informs, Lifts, MARK, Opening, Opens, Publishes, Seats, SeesMark,
+    SeesNext, Witnesses, Words,
 };
 use crate::word::{BLOCK, SPENT_SEQ, WORDS_PER_IV, pair_of};
 use atomic_table::Table;
@@ -92,7 +92,7 @@ impl Numbers {
 
         ensures looks { IsPrefix d.old.looks d.new.looks }
         ensures frame { (d.new.which ≡ d.old.which) × (d.new.noted ≡ d.old.noted) × (d.new.known ≡ d.old.known)
-            × (d.new.parts ≡ d.old.parts) }
+            × (d.new.informed ≡ d.old.informed) × (d.new.parts ≡ d.old.parts) }
 
         ensures drawn { IfOk result (λ p. d.new.drawn ≡ d.old.drawn ++ word_of p ∷ []) }
         ensures raised { IfOk result (λ p. d.new.raised ≡ d.old.raised ++ (word_of p + 1) ∷ []) }
@@ -130,7 +130,7 @@ impl Numbers {
 
         ensures looks { IsPrefix d.old.looks d.new.looks }
         ensures frame { (d.new.which ≡ d.old.which) × (d.new.noted ≡ d.old.noted) × (d.new.known ≡ d.old.known)
-            × (d.new.parts ≡ d.old.parts) }
+            × (d.new.informed ≡ d.old.informed) × (d.new.parts ≡ d.old.parts) }
 
         ensures drawn { IfOk result (λ p. d.new.drawn ≡ d.old.drawn ++ word_of p ∷ []) }
         ensures raised { IfOk result (λ p. d.new.raised ≡ d.old.raised ++ (word_of p + 1) ∷ []) }
@@ -187,6 +187,20 @@ impl Numbers {
         words.fetch_max::<Advances>(&mut k.seat, COUNTER, to);
     }
 
+    /// Tells a seat that draws where the keeper has moved the counter to so far: what it draws from now on isn't below that (`above` of `draw`). It
+    /// takes no memory, and changes neither word: all that runs is two loads of the counter, whose words nothing uses.
+    pub fn inform(&self, k: &mut Keeper, d: &mut Drawer)
+        requires made { k.old.which ≡ self.now.which }
+        requires drawer_made { d.old.which ≡ self.now.which }
+
+        ensures keeper { k.new ≡ k.old }
+        ensures informed { d.new ≡ record d.old { informed = d.old.informed ++ went_to k.old.advances } }
+    {
+        let words = &self.table.shared;
+        let seat = words.split_seat::<Informs>(&mut k.seat);
+        words.join_seat::<Seats>(&mut d.seat, seat);
+    }
+
     /// A new seat. What it draws is above all that this one has drawn so far, and not below what this one has seen. It takes one of this one's
     /// parts. Where this one has one part alone, that part is lost, and `close` can't tell any more that all seats were joined.
     pub fn split(&self, d: &mut Drawer) -> Drawer
@@ -211,6 +225,7 @@ impl Numbers {
         ensures noted { d.new.noted ≡ d.old.noted ++ other.noted }
         ensures looks { d.new.looks ≡ d.old.looks ++ other.looks }
         ensures known { d.new.known ≡ d.old.known ++ other.known }
+        ensures informed { d.new.informed ≡ d.old.informed ++ other.informed }
         ensures parts { d.new.parts ≡ d.old.parts + other.parts }
     {
         let Drawer { seat } = other;

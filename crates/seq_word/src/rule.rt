@@ -1,6 +1,6 @@
 //! The rule of the two words, as `atomic_table` takes it. The definitions stand in `specs/Rule.antt`.
 //!
-//! There are nine kinds of atomic step. Each changes the view of the seat that takes it, and a join that of the other seat too.
+//! There are ten kinds of atomic step. Each changes the view of the seat that takes it, and a join that of the other seat too.
 //!
 //! | Step | Seat | What its view notes |
 //! |---|---|---|
@@ -12,6 +12,7 @@
 //! | a fetch_max on the counter, to the mark | the keeper | the word found, and the one moved to; it doesn't move any more |
 //! | a split | a drawer | it has one part less; the new seat has that, notes all that was drawn here, or noted, and knows the looks here, or known. At the start the keeper's seat hands all its parts to the first drawer |
 //! | a split of a witness | a drawer | nothing; the new seat knows the looks here, or known, and can't draw |
+//! | a split of the moves | the keeper | nothing; the new seat knows where the counter was moved to, and can't draw |
 //! | a join | a drawer, or the keeper | all that the other seat knows, and its parts; at the end also the keeper's mark. The other seat is left knowing nothing |
 #![tactic(auto)]
 
@@ -50,6 +51,8 @@ pub struct View {
     pub looks: LinkedList<Look>,
     /// The looks at the seat from which this one was split off, or that were known there.
     pub known: LinkedList<Look>,
+    /// Where the keeper had moved the counter to, as this seat was told.
+    pub informed: LinkedList<u64>,
 }
 
 /// What both words are when the table is made.
@@ -147,6 +150,17 @@ impl Split<View> for Witnesses {
     ghost left = { λ v. v };
 
     ghost right = { witness_of };
+}
+
+/// How a seat that tells where the counter was moved to is cut off the keeper's.
+pub struct Informs;
+
+impl Split<View> for Informs {
+    ghost use Rattle.seq_word.specs.Rule.{moves_of};
+
+    ghost left = { λ v. v };
+
+    ghost right = { moves_of };
 }
 
 /// How drawers' seats are cut in two, and how seats are put together.

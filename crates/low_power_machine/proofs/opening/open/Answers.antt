@@ -1,4 +1,4 @@
-use Rattle.std.proofs.Common.{◌≡◌, List, false, ap, sym, subst, ◌∙◌}
+use Rattle.std.proofs.Common.{◌≡◌, ℕ, List, false, ap, sym, subst, ◌∙◌}
 use Rattle.low_power_definitions.specs.State.{no_friend}
 use Rattle.low_power_machine.proofs.Kind.{opened_before}
 use Rattle.low_power_machine.specs.Memory.{IsFitFor}
@@ -25,5 +25,6 @@ invariant_of-apart c e =
     (subst (λ (p : Persist). IsFitFor t p) is c.new-memory.ensures.fit)
     (subst (λ (s : StoreView). s.journal.closed ≡ false) store c.requires.usable)
     (ap (λ (p : Persist). p.elements) c.persist-p.ensures.value) in
-    subst (λ n. IsReadyBy IsBefore IsFitFor (record (opened_by r t c.persist-p.result.now.elements) { entries = log.entries; taken = n })) (sym c.in_ok-history.ensures.taken)
-    (subst (λ (l : List Entry). IsReadyBy IsBefore IsFitFor (record (opened_by r t c.persist-p.result.now.elements) { entries = l })) (sym c.in_ok-history.ensures.entries) base)
+    subst (λ n. IsReadyBy IsBefore IsFitFor (record (opened_by r t c.persist-p.result.now.elements) { entries = log.entries; moves = log.moves; taken = n })) (sym c.in_ok-history.ensures.taken)
+    (subst (λ (l : List ℕ). IsReadyBy IsBefore IsFitFor (record (opened_by r t c.persist-p.result.now.elements) { entries = log.entries; moves = l })) (sym c.in_ok-history.ensures.moves)
+    (subst (λ (l : List Entry). IsReadyBy IsBefore IsFitFor (record (opened_by r t c.persist-p.result.now.elements) { entries = l })) (sym c.in_ok-history.ensures.entries) base))

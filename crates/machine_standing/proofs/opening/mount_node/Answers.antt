@@ -59,12 +59,18 @@ pub returns-in-Ok-clause-writes : goal.returns-in-Ok-clause-writes
 returns-in-Ok-clause-writes g c = record {
   unwritten = λ other. record { stays = c.mount.ensures.stays c.requires.fresh.honest other; no_calls = c.mount.ensures.no_calls c.requires.fresh.honest other };
   most_calls = c.mount.ensures.most_calls;
+  most_erases = c.mount.ensures.most_erases;
+  most_octets = c.mount.ensures.most_octets;
+  most_reads = c.mount.ensures.most_reads;
 }
 
 pub returns-in-Err-clause-writes : goal.returns-in-Err-clause-writes
 returns-in-Err-clause-writes g c = record {
   unwritten = λ other. record { stays = c.mount.ensures.stays c.requires.fresh.honest other; no_calls = c.mount.ensures.no_calls c.requires.fresh.honest other };
   most_calls = c.mount.ensures.most_calls;
+  most_erases = c.mount.ensures.most_erases;
+  most_octets = c.mount.ensures.most_octets;
+  most_reads = c.mount.ensures.most_reads;
 }
 
 pub returns-in-Err-clause-reset : goal.returns-in-Err-clause-reset

@@ -39,6 +39,7 @@ returns c =
             ∙ subst (λ (p : Persist). c.jobs_of_own-jobs.result ≡ jobs_of node_layers past (config_in p) event OfNothing c.plan_own-plan.result.answer) c.persist-p.ensures.value
             (c.jobs_of_own-jobs.ensures.value past c.plan_own-plan.new.tables planned);
         entry = c.enter.ensures.entry;
+        moves = c.enter.ensures.moves;
         taken = c.enter.ensures.taken;
         among = c.enter.ensures.place;
         few = omega (arith, c.requires.room.few);

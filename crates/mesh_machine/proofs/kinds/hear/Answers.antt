@@ -55,7 +55,7 @@ returns-in-Ok-store-clause-done g c =
     c.plan_pdu.ensures.fit in
     done_by c.args.parts.now c.store.new.parts c.enter.new.history event c.args.pending.place (g.F.Flash.chip c.args.flash.now) (g.F.Flash.chip c.store.new.flash) c.enter.result (of_pdu c.in-Ok.plan) c.plan_pdu.new.tables
     asked c.in-Ok-store.ensures.stored c.store.ensures.history c.args.pending.event.now c.requires.heard
-    c.enter.ensures.entry c.enter.ensures.taken c.enter.ensures.place c.enter.ensures.answer c.requires.room.few c.persist-p.result.now c.persist-p.ensures.value c.jobs_of_pdu-jobs.result c.enter.ensures.jobs
+    c.enter.ensures.entry c.enter.ensures.moves c.enter.ensures.taken c.enter.ensures.place c.enter.ensures.answer c.requires.room.few c.persist-p.result.now c.persist-p.ensures.value c.jobs_of_pdu-jobs.result c.enter.ensures.jobs
     (λ past planned unicast leaves. c.jobs_of_pdu-jobs.ensures.value past c.args.octets.now c.plan_pdu.new.tables planned leaves)
 
 pub returns-in-Err-store-clause-stopped : goal.returns-in-Err-store-clause-stopped

@@ -32,7 +32,7 @@ returns-clause-done g c =
     c.plan_beacon-plan.ensures.fit in
     done_by c.args.parts.now c.store.new.parts c.enter.new.history event c.args.pending.place (g.F.Flash.chip c.args.flash.now) (g.F.Flash.chip c.store.new.flash) c.enter.result (of_beacon c.plan_beacon-plan.result) c.plan_beacon-plan.new.tables
     asked c.in-Ok.ensures.stored c.store.ensures.history c.args.pending.event.now c.requires.heard
-    c.enter.ensures.entry c.enter.ensures.taken c.enter.ensures.place c.enter.ensures.answer c.requires.room.few c.store.new.parts.reserve.store.persist refl c.jobs_of_beacon-jobs.result c.enter.ensures.jobs
+    c.enter.ensures.entry c.enter.ensures.moves c.enter.ensures.taken c.enter.ensures.place c.enter.ensures.answer c.requires.room.few c.store.new.parts.reserve.store.persist refl c.jobs_of_beacon-jobs.result c.enter.ensures.jobs
     (λ past planned unicast leaves. c.jobs_of_beacon-jobs.ensures.value past _ c.args.octets.now _ _)
 
 pub returns-in-Err-clause-stopped : goal.returns-in-Err-clause-stopped

@@ -45,6 +45,7 @@ returns-in-Some-clause-done g c =
           c.enter-told.ensures.jobs ∙ c.finish-jobs.ensures.value ∙ c.requires.room.none
           ∙ sym (subst (λ (a : Answer). jobs_of node_layers past (config_in old.reserve.store.persist) event OfNothing a ≡ []) (sym planned.answer) under);
       entry = c.enter-told.ensures.entry ∙ ap (λ (e : Event). old.history.entries ++ entry_of c.args.pending.place e c.enter-told.result ∷ []) c.requires.told;
+      moves = c.enter-told.ensures.moves;
       taken = c.enter-told.ensures.taken;
       among = c.enter-told.ensures.place;
       few = omega (arith, c.requires.room.few);
@@ -96,7 +97,7 @@ returns-in-Ok-clause-done g c =
     c.plan_tick-plan.ensures.fit in
     done_by c.args.parts.now c.store.new.parts c.enter-answered.new.history event c.args.pending.place (g.F.Flash.chip c.args.flash.now) (g.F.Flash.chip c.store.new.flash) c.enter-answered.result (of_tick c.plan_tick-plan.result) c.plan_tick-plan.new.tables
     asked c.in-Ok.ensures.stored c.store.ensures.history c.args.pending.event.now c.requires.told
-    c.enter-answered.ensures.entry c.enter-answered.ensures.taken c.enter-answered.ensures.place c.enter-answered.ensures.answer c.requires.room.few c.persist-p.result.now c.persist-p.ensures.value c.jobs_of_tick-jobs.result c.enter-answered.ensures.jobs
+    c.enter-answered.ensures.entry c.enter-answered.ensures.moves c.enter-answered.ensures.taken c.enter-answered.ensures.place c.enter-answered.ensures.answer c.requires.room.few c.persist-p.result.now c.persist-p.ensures.value c.jobs_of_tick-jobs.result c.enter-answered.ensures.jobs
     (λ past planned unicast leaves. c.jobs_of_tick-jobs.ensures.value past c.args.ticks c.plan_tick-plan.new.tables planned unicast)
 
 pub returns-in-Err-clause-stopped : goal.returns-in-Err-clause-stopped

@@ -1,4 +1,4 @@
-use Rattle.std.proofs.Common.{◌≡◌, ◌∙◌, List, [], false, refl, ap, sym, subst}
+use Rattle.std.proofs.Common.{◌≡◌, ◌∙◌, ℕ, List, [], false, refl, ap, sym, subst}
 use Rattle.event_plans.specs.Memory.{AreNodeTablesOf, IsFitFor, NodeTablesView}
 use Rattle.machine_standing.proofs.Opened.{opened_ready}
 use Rattle.machine_standing.specs.Ties.{IsNodeStore}
@@ -27,8 +27,9 @@ invariant_of-apart c e =
     (subst (λ (s : StoreView). IsFitFor t s.persist) store (subst (λ (p : Persist). IsFitFor t p) c.persist.ensures.value c.in_ok-tables.ensures.fit))
     (subst (λ (s : StoreView). s.journal.closed ≡ false) store c.requires.usable)
     (ap (λ (p : Persist). p.elements) c.persist-p.ensures.value) in
-    subst (λ n. IsReady (record (opened r t c.persist-p.result.now.elements) { entries = log.entries; taken = n })) (sym (c.reserve_all.ensures.taken ∙ c.in_ok-history.ensures.taken))
-    (subst (λ (l : List Entry). IsReady (record (opened r t c.persist-p.result.now.elements) { entries = l })) (sym (c.reserve_all.ensures.entries ∙ c.in_ok-history.ensures.entries)) base)
+    subst (λ n. IsReady (record (opened r t c.persist-p.result.now.elements) { entries = log.entries; moves = log.moves; taken = n })) (sym (c.reserve_all.ensures.taken ∙ c.in_ok-history.ensures.taken))
+    (subst (λ (l : List ℕ). IsReady (record (opened r t c.persist-p.result.now.elements) { entries = log.entries; moves = l })) (sym (c.reserve_all.ensures.moves ∙ c.in_ok-history.ensures.moves))
+    (subst (λ (l : List Entry). IsReady (record (opened r t c.persist-p.result.now.elements) { entries = l })) (sym (c.reserve_all.ensures.entries ∙ c.in_ok-history.ensures.entries)) base))
 
 pub returns-clause-tables : goal.returns-clause-tables
 returns-clause-tables c over meaning =

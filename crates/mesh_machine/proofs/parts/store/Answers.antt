@@ -1,5 +1,5 @@
 use Rattle.std.proofs.Common.{◌++◌, ◌∙◌, ap, sym, subst}
-use Rattle.machine_contract.specs.Moved.{went_to}
+use Rattle.seq_word.specs.Seen.{went_to}
 use Rattle.machine_standing.proofs.Moved.{advances_are}
 use Rattle.mesh_hearing.specs.Tables.{IsFit}
 use Rattle.mesh_reading.specs.Held.{AreHeldKeys}

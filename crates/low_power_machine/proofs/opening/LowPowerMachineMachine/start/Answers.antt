@@ -1,5 +1,5 @@
 use Rattle.std.proofs.Common.{ap, sym, subst, ◌∙◌, arith}
-use Rattle.flash_model.specs.Chip.{Setting}
+use Rattle.flash_model.specs.Chip.{Setting, count_of}
 use Rattle.machine_contract.specs.Opening.{found_of}
 use Rattle.machine_standing.proofs.Opened.{opened_stands}
 use Rattle.machine_standing.specs.Opening.{IsNodeMounted}
@@ -28,14 +28,14 @@ returns-in-Ok-clause-ok g c =
     let r = started.machine.state.value.reserve in
     let t = started.machine.state.value.tables in
     let said : IsNodeStore node.over r.store.persist = subst (λ (s : StoreView). IsNodeStore node.over s.persist) (sym says.store) node.node in
-    let worn : IsOpenedWith old.now old.changes new.changes r.store.journal.used =
-    subst (λ (s : StoreView). IsOpenedWith old.now old.changes new.changes s.journal.used) (sym says.store) c.in_ok-store.ensures.wear in
+    let worn : IsOpenedWith old.now (count_of old) (count_of new) r.store.journal.used =
+    subst (λ (s : StoreView). IsOpenedWith old.now (count_of old) (count_of new) s.journal.used) (sym says.store) c.in_ok-store.ensures.wear in
     let base : Stands (found_of old) new node.over (opened_by r t store.persist.elements) =
     opened_stands low_power_role IsBefore (found_of old) new node.over r t store.persist.elements (subst (λ (s : StoreView). IsStoreOf new s node.over) (sym says.store) node.kept) said
     (opened_before node.over r t store.persist.elements said
     (says.lpn ∙ ap (λ (s : StoreView). no_friend s.persist.unicast s.persist.elements) (sym says.store))) says.published says.advances (ap (λ (s : StoreView). s.persist.elements) (sym says.store))
     (omega (arith, c.requires.began, c.mount_node.ensures.frame.later, ap (λ (x : Setting). x.faults) c.mount_node.ensures.frame.setting))
-    worn.used worn.taken_up worn.costs in
+    worn.used worn.taken_up worn.costs c.mount_node.ensures.writes.most_reads in
     record {
       over = node.over;
       read = node.read;

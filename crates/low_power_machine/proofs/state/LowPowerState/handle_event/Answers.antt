@@ -1,10 +1,11 @@
-use Rattle.std.proofs.Common.{◌≡◌, ◌+◌, ◌-◌, ◌<◌, ◌^◌, true, List, [], ◌∷◌, ◌++◌, length, refl, ap, sym, subst, ◌∙◌, arith}
+use Rattle.std.proofs.Common.{◌≡◌, ℕ, ◌+◌, ◌-◌, ◌<◌, ◌^◌, true, List, [], ◌∷◌, ◌++◌, length, refl, ap, sym, subst, ◌∙◌, arith}
 use Rattle.std.specs.Prelude.{All}
 use Rattle.std.specs.List.{flat_map}
 use Rattle.std.specs.Option.{option_to_list}
 use Rattle.entry_log.specs.Log.{LogView}
 use Rattle.event_records.specs.Asked.{AreAskedFor}
 use Rattle.event_records.specs.Putting.{AreMoves, ArePuttable}
+use Rattle.flash_model.specs.Chip.{count_of}
 use Rattle.low_power_machine.proofs.Accepts.{place_of_answer, seq_of_answer}
 use Rattle.low_power_machine.proofs.Handled.{IsMade, closes, plans_by, ready_made, stands_closed, stands_made}
 use Rattle.low_power_machine.proofs.Kind.{ArePlans}
@@ -18,7 +19,8 @@ use Rattle.low_power_machine.specs.declared.memory.Memory.{Memory}
 use Rattle.low_power_machine.specs.declared.plan.Plan.{Plan}
 use Rattle.low_power_role.specs.Role.{jobs_under}
 use Rattle.low_power_role.specs.State.{event_calls, state_of}
-use Rattle.machine_contract.specs.Moved.{rises, went_to}
+use Rattle.machine_contract.specs.Moves.{rises}
+use Rattle.seq_word.specs.Seen.{last_word, went_to}
 use Rattle.machine_contract.specs.Ranges.{IsJob}
 use Rattle.machine_contract.specs.Refused.{Closes}
 use Rattle.machine_contract.specs.declared.answers.Answered.{Answered}
@@ -107,13 +109,14 @@ invariant_of-self-2 g c e =
       };
       fills = refl;
       entries = c.enter-answered.ensures.entry ∙ ap (λ (l : List Entry). l ++ entry ∷ []) c.room.ensures.entries;
+      moves = c.enter-answered.ensures.moves ∙ ap (λ (l : List ℕ). l ++ last_word (went_to r.keeper.advances) ∷ []) c.room.ensures.moves;
       taken = c.enter-answered.ensures.taken ∙ c.room.ensures.taken;
       published = c.store_records.ensures.published;
       made = c.store_records.ensures.made;
       moved = c.in-Ok.ensures.advanced ∙ ap (λ l. went_to i.reserve.keeper.advances ++ l) (advances_are (config_in i.reserve.store.persist) c.heard_records-records.result)
           ∙ ap (λ (l : List StoreRecord). went_to i.reserve.keeper.advances ++ rises (config_in i.reserve.store.persist) l) records;
       fit = subst (λ (p : Persist). IsFitFor memory p) c.persist.ensures.value c.plan-plan.ensures.fit;
-      wear = subst (λ (l : List StoreRecord). CostsAndUses i.reserve.store.journal.used (length l) old.changes new.changes r.store.journal.used) records (c.in-Ok.ensures.wear ready.usable);
+      wear = subst (λ (l : List StoreRecord). CostsAndUses i.reserve.store.journal.used (length l) (count_of old) (count_of new) r.store.journal.used) records (c.in-Ok.ensures.wear ready.usable);
     } in
     ready_made m event plan memory r log entry old new made c.node_law.ensures.kept c.low_power_state_law.ensures.goes_on ready
 
@@ -173,17 +176,18 @@ returns-clause-kept g c first over stands =
       };
       fills = refl;
       entries = c.enter-answered.ensures.entry ∙ ap (λ (l : List Entry). l ++ entry ∷ []) c.room.ensures.entries;
+      moves = c.enter-answered.ensures.moves ∙ ap (λ (l : List ℕ). l ++ last_word (went_to r.keeper.advances) ∷ []) c.room.ensures.moves;
       taken = c.enter-answered.ensures.taken ∙ c.room.ensures.taken;
       published = c.store_records.ensures.published;
       made = c.store_records.ensures.made;
       moved = c.in-Ok.ensures.advanced ∙ ap (λ l. went_to i.reserve.keeper.advances ++ l) (advances_are (config_in i.reserve.store.persist) c.heard_records-records.result)
           ∙ ap (λ (l : List StoreRecord). went_to i.reserve.keeper.advances ++ rises (config_in i.reserve.store.persist) l) records;
       fit = subst (λ (p : Persist). IsFitFor memory p) c.persist.ensures.value c.plan-plan.ensures.fit;
-      wear = subst (λ (l : List StoreRecord). CostsAndUses i.reserve.store.journal.used (length l) old.changes new.changes r.store.journal.used) records (c.in-Ok.ensures.wear ready.usable);
+      wear = subst (λ (l : List StoreRecord). CostsAndUses i.reserve.store.journal.used (length l) (count_of old) (count_of new) r.store.journal.used) records (c.in-Ok.ensures.wear ready.usable);
     } in
     let few : length i.history.entries < 2 ^ 32 - 1 = subst (λ (l : List Entry). length l < 2 ^ 32 - 1) c.room.ensures.entries c.in_ok-draft.ensures.few in
     stands_made m event plan memory r log entry old new made c.node_law.ensures.kept c.low_power_state_law.ensures.goes_on first over
-    (subst (λ (v : LowPowerNode). Stands first old over v) (sym c.self.view_is) stands) c.if-self.false (omega (arith, few)) c.store_records.ensures.leaves.frame
+    (subst (λ (v : LowPowerNode). Stands first old over v) (sym c.self.view_is) stands) c.if-self.false (omega (arith, few)) c.store_records.ensures.leaves.frame c.store_records.ensures.leaves.reads
 
 pub returns-in-Err-clause-refused : goal.returns-in-Err-clause-refused
 returns-in-Err-clause-refused g c =
@@ -209,7 +213,7 @@ returns-in-Err-clause-refused g c =
     let log : LogView = c.room.new.history in
     subst (λ (v : LowPowerNode). Closes (H.OfEvent event) (shown v) (shown (machine_of r memory log i.fills true (H.OfEvent c.of.result) i.elements)) old new) c.self.view_is
     (subst (λ (e : Event). Closes (H.OfEvent event) (shown m) (shown (machine_of r memory log i.fills true (H.OfEvent e) i.elements)) old new) (sym c.of.ensures.value)
-    (closes c.node_law.ensures.kept c.low_power_state_law.ensures.goes_on m event plan memory r log old new plans may c.room.ensures.entries c.room.ensures.taken rose c.if-self.false c.store_records.ensures.made))
+    (closes c.node_law.ensures.kept c.low_power_state_law.ensures.goes_on m event plan memory r log old new plans may c.room.ensures.entries c.room.ensures.moves c.room.ensures.taken rose c.if-self.false c.store_records.ensures.made))
 
 pub returns-in-Err-clause-kept : goal.returns-in-Err-clause-kept
 returns-in-Err-clause-kept g c first over stands =
@@ -234,7 +238,7 @@ returns-in-Err-clause-kept g c first over stands =
     let rose : old.faults < new.faults = (c.in-Err.ensures.fails ready.usable).cause.rose in
     let log : LogView = c.room.new.history in
     subst (λ (e : Event). Stands first new over (machine_of r memory log i.fills true (H.OfEvent e) i.elements)) (sym c.of.ensures.value)
-    (stands_closed c.node_law.ensures.kept c.low_power_state_law.ensures.goes_on m event plan memory r log old new plans may c.room.ensures.entries c.room.ensures.taken rose first over
+    (stands_closed c.node_law.ensures.kept c.low_power_state_law.ensures.goes_on m event plan memory r log old new plans may c.room.ensures.entries c.room.ensures.moves c.room.ensures.taken rose first over
     (subst (λ (v : LowPowerNode). Stands first old over v) (sym c.self.view_is) stands) c.if-self.false c.store_records.ensures.leaves.frame
     (λ before held image is. subst (λ (l : List StoreRecord). IsFront before l image) records (c.store_records.ensures.fronts before held image is)) c.store_records.ensures.durable
-    (subst (λ (l : List StoreRecord). CostsAtMost i.reserve.store.journal.used (length l) old.changes new.changes) records c.store_records.ensures.most_wear))
+    (subst (λ (l : List StoreRecord). CostsAtMost i.reserve.store.journal.used (length l) (count_of old) (count_of new)) records c.store_records.ensures.most_wear) c.store_records.ensures.leaves.reads)

@@ -20,6 +20,7 @@ use Rattle.node_records.specs.Tables.{config_in}
 use Rattle.node_records.specs.declared.persist.Persist.{Persist}
 use Rattle.event_definitions.specs.History.{Insight}
 use Rattle.event_definitions.specs.Stores.{stores}
+use Rattle.seq_word.specs.Seen.{last_word, went_to}
 use Rattle.store_world.specs.Standing.{IsWorldOf}
 use Rattle.mesh_machine.proofs.state.MeshState.handle_event.Goals as goal
 
@@ -29,7 +30,7 @@ handle-requires-clause-turn g c =
     let m : NodeMachine = machine_of i.parts i.fills i.closed i.hand i.elements in
     let parts : Parts = record i.parts { history = c.room.new.history } in
     let same : machine_of parts i.fills i.closed i.hand i.elements ≡ m =
-    reserved_same i.parts c.room.new.history i.fills i.closed i.hand i.elements c.room.ensures.entries c.room.ensures.taken in
+    reserved_same i.parts c.room.new.history i.fills i.closed i.hand i.elements c.room.ensures.entries c.room.ensures.moves c.room.ensures.taken in
     let ready : IsReady (machine_of parts i.fills i.closed i.hand i.elements) = subst IsReady (sym same) (c.self.invariant c.if-self.false) in
     record { fills = i.fills; closed = i.closed; hand = i.hand; elements = i.elements; ready = ready; given = subst (λ (v : NodeMachine). IsEvent v.elements c.args.event.now) (sym c.self.view_is) c.requires.event }
 
@@ -43,7 +44,7 @@ invariant_of-self-in-Ok g c e =
     let m : NodeMachine = machine_of i.parts i.fills i.closed i.hand i.elements in
     let parts : Parts = record i.parts { history = c.room.new.history } in
     let same : machine_of parts i.fills i.closed i.hand i.elements ≡ m =
-    reserved_same i.parts c.room.new.history i.fills i.closed i.hand i.elements c.room.ensures.entries c.room.ensures.taken in
+    reserved_same i.parts c.room.new.history i.fills i.closed i.hand i.elements c.room.ensures.entries c.room.ensures.moves c.room.ensures.taken in
     let ready : IsReady (machine_of parts i.fills i.closed i.hand i.elements) = subst IsReady (sym same) (c.self.invariant c.if-self.false) in
     let place : Place = record { bearer = c.args.bearer; number = c.args.number; fills = i.fills } in
     let old = g.F.Flash.chip c.args.flash.now in
@@ -59,7 +60,7 @@ returns-in-Ok-clause-ok g c =
     let m : NodeMachine = machine_of i.parts i.fills i.closed i.hand i.elements in
     let parts : Parts = record i.parts { history = c.room.new.history } in
     let same : machine_of parts i.fills i.closed i.hand i.elements ≡ m =
-    reserved_same i.parts c.room.new.history i.fills i.closed i.hand i.elements c.room.ensures.entries c.room.ensures.taken in
+    reserved_same i.parts c.room.new.history i.fills i.closed i.hand i.elements c.room.ensures.entries c.room.ensures.moves c.room.ensures.taken in
     let place : Place = record { bearer = c.args.bearer; number = c.args.number; fills = i.fills } in
     let old = g.F.Flash.chip c.args.flash.now in
     let new = g.F.Flash.chip c.handle.new.flash in
@@ -67,7 +68,7 @@ returns-in-Ok-clause-ok g c =
     let a = c.in-Ok.answered in
     let d = c.in-Ok.ensures.done in
     subst (λ (v : NodeMachine). shown (machine_of c.handle.new.parts 0 i.closed i.hand i.elements)
-    ≡ with_entry (shown v) (entry_for (shown v) c.args.bearer c.args.number event a.answer a.jobs) c.handle.new.parts.reserve.keeper.mark) (same ∙ c.self.view_is)
+    ≡ with_entry (shown v) (entry_for (shown v) c.args.bearer c.args.number event a.answer a.jobs) (last_word (went_to c.handle.new.parts.reserve.keeper.advances)) c.handle.new.parts.reserve.keeper.mark) (same ∙ c.self.view_is)
     (shown_done c.ties_law.ensures.laws parts c.handle.new.parts event place old new a d i.closed i.hand i.elements)
 
 pub returns-in-Ok-clause-place : goal.returns-in-Ok-clause-place
@@ -76,7 +77,7 @@ returns-in-Ok-clause-place g c =
     let m : NodeMachine = machine_of i.parts i.fills i.closed i.hand i.elements in
     let parts : Parts = record i.parts { history = c.room.new.history } in
     let same : machine_of parts i.fills i.closed i.hand i.elements ≡ m =
-    reserved_same i.parts c.room.new.history i.fills i.closed i.hand i.elements c.room.ensures.entries c.room.ensures.taken in
+    reserved_same i.parts c.room.new.history i.fills i.closed i.hand i.elements c.room.ensures.entries c.room.ensures.moves c.room.ensures.taken in
     let place : Place = record { bearer = c.args.bearer; number = c.args.number; fills = i.fills } in
     let old = g.F.Flash.chip c.args.flash.now in
     let new = g.F.Flash.chip c.handle.new.flash in
@@ -91,7 +92,7 @@ returns-in-Ok-clause-jobs g c =
     let m : NodeMachine = machine_of i.parts i.fills i.closed i.hand i.elements in
     let parts : Parts = record i.parts { history = c.room.new.history } in
     let same : machine_of parts i.fills i.closed i.hand i.elements ≡ m =
-    reserved_same i.parts c.room.new.history i.fills i.closed i.hand i.elements c.room.ensures.entries c.room.ensures.taken in
+    reserved_same i.parts c.room.new.history i.fills i.closed i.hand i.elements c.room.ensures.entries c.room.ensures.moves c.room.ensures.taken in
     let ready : IsReady (machine_of parts i.fills i.closed i.hand i.elements) = subst IsReady (sym same) (c.self.invariant c.if-self.false) in
     let place : Place = record { bearer = c.args.bearer; number = c.args.number; fills = i.fills } in
     let old = g.F.Flash.chip c.args.flash.now in
@@ -107,7 +108,7 @@ returns-in-Ok-clause-quiet g c outside =
     let m : NodeMachine = machine_of i.parts i.fills i.closed i.hand i.elements in
     let parts : Parts = record i.parts { history = c.room.new.history } in
     let same : machine_of parts i.fills i.closed i.hand i.elements ≡ m =
-    reserved_same i.parts c.room.new.history i.fills i.closed i.hand i.elements c.room.ensures.entries c.room.ensures.taken in
+    reserved_same i.parts c.room.new.history i.fills i.closed i.hand i.elements c.room.ensures.entries c.room.ensures.moves c.room.ensures.taken in
     let ready : IsReady (machine_of parts i.fills i.closed i.hand i.elements) = subst IsReady (sym same) (c.self.invariant c.if-self.false) in
     let place : Place = record { bearer = c.args.bearer; number = c.args.number; fills = i.fills } in
     let old = g.F.Flash.chip c.args.flash.now in
@@ -123,7 +124,7 @@ returns-in-Ok-clause-steps g c w world =
     let m : NodeMachine = machine_of i.parts i.fills i.closed i.hand i.elements in
     let parts : Parts = record i.parts { history = c.room.new.history } in
     let same : machine_of parts i.fills i.closed i.hand i.elements ≡ m =
-    reserved_same i.parts c.room.new.history i.fills i.closed i.hand i.elements c.room.ensures.entries c.room.ensures.taken in
+    reserved_same i.parts c.room.new.history i.fills i.closed i.hand i.elements c.room.ensures.entries c.room.ensures.moves c.room.ensures.taken in
     let ready : IsReady (machine_of parts i.fills i.closed i.hand i.elements) = subst IsReady (sym same) (c.self.invariant c.if-self.false) in
     let place : Place = record { bearer = c.args.bearer; number = c.args.number; fills = i.fills } in
     let old = g.F.Flash.chip c.args.flash.now in
@@ -157,7 +158,7 @@ returns-in-Ok-clause-kept g c first over stands =
     let m : NodeMachine = machine_of i.parts i.fills i.closed i.hand i.elements in
     let parts : Parts = record i.parts { history = c.room.new.history } in
     let same : machine_of parts i.fills i.closed i.hand i.elements ≡ m =
-    reserved_same i.parts c.room.new.history i.fills i.closed i.hand i.elements c.room.ensures.entries c.room.ensures.taken in
+    reserved_same i.parts c.room.new.history i.fills i.closed i.hand i.elements c.room.ensures.entries c.room.ensures.moves c.room.ensures.taken in
     let place : Place = record { bearer = c.args.bearer; number = c.args.number; fills = i.fills } in
     let old = g.F.Flash.chip c.args.flash.now in
     let new = g.F.Flash.chip c.handle.new.flash in
@@ -165,7 +166,7 @@ returns-in-Ok-clause-kept g c first over stands =
     let a = c.in-Ok.answered in
     let d = c.in-Ok.ensures.done in
     stands_done c.ties_law.ensures.laws parts c.handle.new.parts event place old new a d i.closed i.hand i.elements first over
-    (subst (λ (v : NodeMachine). Stands first old over v) (sym (same ∙ c.self.view_is)) stands) c.if-self.false c.handle.ensures.frame
+    (subst (λ (v : NodeMachine). Stands first old over v) (sym (same ∙ c.self.view_is)) stands) c.if-self.false c.handle.ensures.frame c.handle.ensures.unread
 
 pub returns-in-Flash-clause-kept : goal.returns-in-Flash-clause-kept
 returns-in-Flash-clause-kept g c first over stands =
@@ -173,13 +174,13 @@ returns-in-Flash-clause-kept g c first over stands =
     let m : NodeMachine = machine_of i.parts i.fills i.closed i.hand i.elements in
     let parts : Parts = record i.parts { history = c.room.new.history } in
     let same : machine_of parts i.fills i.closed i.hand i.elements ≡ m =
-    reserved_same i.parts c.room.new.history i.fills i.closed i.hand i.elements c.room.ensures.entries c.room.ensures.taken in
+    reserved_same i.parts c.room.new.history i.fills i.closed i.hand i.elements c.room.ensures.entries c.room.ensures.moves c.room.ensures.taken in
     let old = g.F.Flash.chip c.args.flash.now in
     let new = g.F.Flash.chip c.handle.new.flash in
     let d = of_flash g.F.Flash.chip c.args.event.now parts c.handle.new.parts c.args.flash.now c.handle.new.flash c.in-Err.stop c.in-Err.ensures.stopped c.in-Flash.is in
     subst (λ (e : Event). Stands first new over (machine_of c.handle.new.parts i.fills true (H.OfEvent e) i.elements)) (sym c.of.ensures.value)
     (stands_stopped c.ties_law.ensures.laws parts c.handle.new.parts c.args.event.now old new d i.fills i.closed i.hand i.elements first over
-    (subst (λ (v : NodeMachine). Stands first old over v) (sym (same ∙ c.self.view_is)) stands) c.if-self.false c.handle.ensures.frame)
+    (subst (λ (v : NodeMachine). Stands first old over v) (sym (same ∙ c.self.view_is)) stands) c.if-self.false c.handle.ensures.frame c.handle.ensures.unread)
 
 pub returns-in-Flash-clause-refused : goal.returns-in-Flash-clause-refused
 returns-in-Flash-clause-refused g c =
@@ -187,7 +188,7 @@ returns-in-Flash-clause-refused g c =
     let m : NodeMachine = machine_of i.parts i.fills i.closed i.hand i.elements in
     let parts : Parts = record i.parts { history = c.room.new.history } in
     let same : machine_of parts i.fills i.closed i.hand i.elements ≡ m =
-    reserved_same i.parts c.room.new.history i.fills i.closed i.hand i.elements c.room.ensures.entries c.room.ensures.taken in
+    reserved_same i.parts c.room.new.history i.fills i.closed i.hand i.elements c.room.ensures.entries c.room.ensures.moves c.room.ensures.taken in
     let old = g.F.Flash.chip c.args.flash.now in
     let new = g.F.Flash.chip c.handle.new.flash in
     let d = of_flash g.F.Flash.chip c.args.event.now parts c.handle.new.parts c.args.flash.now c.handle.new.flash c.in-Err.stop c.in-Err.ensures.stopped c.in-Flash.is in
@@ -202,7 +203,7 @@ returns-in-Memory-clause-refused g c =
     let m : NodeMachine = machine_of i.parts i.fills i.closed i.hand i.elements in
     let parts : Parts = record i.parts { history = c.room.new.history } in
     let same : machine_of parts i.fills i.closed i.hand i.elements ≡ m =
-    reserved_same i.parts c.room.new.history i.fills i.closed i.hand i.elements c.room.ensures.entries c.room.ensures.taken in
+    reserved_same i.parts c.room.new.history i.fills i.closed i.hand i.elements c.room.ensures.entries c.room.ensures.moves c.room.ensures.taken in
     let (before, flash) = of_memory g.F.Flash.chip c.args.event.now parts c.handle.new.parts c.args.flash.now c.handle.new.flash c.in-Err.stop c.in-Err.ensures.stopped c.in-Memory.is in
     let back : machine_of c.handle.new.parts i.fills i.closed i.hand i.elements ≡ c.args.self.now =
     same_parts parts c.handle.new.parts i.fills i.closed i.hand i.elements before ∙ same ∙ c.self.view_is in
@@ -214,7 +215,7 @@ returns-in-Memory-clause-kept g c first over stands =
     let m : NodeMachine = machine_of i.parts i.fills i.closed i.hand i.elements in
     let parts : Parts = record i.parts { history = c.room.new.history } in
     let same : machine_of parts i.fills i.closed i.hand i.elements ≡ m =
-    reserved_same i.parts c.room.new.history i.fills i.closed i.hand i.elements c.room.ensures.entries c.room.ensures.taken in
+    reserved_same i.parts c.room.new.history i.fills i.closed i.hand i.elements c.room.ensures.entries c.room.ensures.moves c.room.ensures.taken in
     let (before, flash) = of_memory g.F.Flash.chip c.args.event.now parts c.handle.new.parts c.args.flash.now c.handle.new.flash c.in-Err.stop c.in-Err.ensures.stopped c.in-Memory.is in
     let back : machine_of c.handle.new.parts i.fills i.closed i.hand i.elements ≡ c.args.self.now =
     same_parts parts c.handle.new.parts i.fills i.closed i.hand i.elements before ∙ same ∙ c.self.view_is in
@@ -227,7 +228,7 @@ invariant_of-self-in-Memory g c =
     let m : NodeMachine = machine_of i.parts i.fills i.closed i.hand i.elements in
     let parts : Parts = record i.parts { history = c.room.new.history } in
     let same : machine_of parts i.fills i.closed i.hand i.elements ≡ m =
-    reserved_same i.parts c.room.new.history i.fills i.closed i.hand i.elements c.room.ensures.entries c.room.ensures.taken in
+    reserved_same i.parts c.room.new.history i.fills i.closed i.hand i.elements c.room.ensures.entries c.room.ensures.moves c.room.ensures.taken in
     let (before, flash) = of_memory g.F.Flash.chip c.args.event.now parts c.handle.new.parts c.args.flash.now c.handle.new.flash c.in-Err.stop c.in-Err.ensures.stopped c.in-Memory.is in
     let back : machine_of c.handle.new.parts i.fills i.closed i.hand i.elements ≡ c.args.self.now =
     same_parts parts c.handle.new.parts i.fills i.closed i.hand i.elements before ∙ same ∙ c.self.view_is in
@@ -239,5 +240,5 @@ returns-in-Closed g c =
     let m : NodeMachine = machine_of i.parts i.fills i.closed i.hand i.elements in
     let parts : Parts = record i.parts { history = c.room.new.history } in
     let same : machine_of parts i.fills i.closed i.hand i.elements ≡ m =
-    reserved_same i.parts c.room.new.history i.fills i.closed i.hand i.elements c.room.ensures.entries c.room.ensures.taken in
+    reserved_same i.parts c.room.new.history i.fills i.closed i.hand i.elements c.room.ensures.entries c.room.ensures.moves c.room.ensures.taken in
     absurd (never_closed g.F.Flash.chip c.args.event.now parts c.handle.new.parts c.args.flash.now c.handle.new.flash c.in-Err.stop c.in-Err.ensures.stopped c.in-Closed.is)
