@@ -120,8 +120,8 @@ impl Node {
         }
     }
 
-    /// Hands each write that isn't taken yet to `put`, in their order: octets for an offset of the image, within it; an erase of a sector as 4,096
-    /// octets ff at its beginning. `put` is to make them durable before it answers.
+    /// Hands each write that isn't taken yet to `put`, in their order: octets for an offset of the image, within one sector of it; an erase of a
+    /// sector as 4,096 octets ff at its beginning. `put` is to make them durable before it answers.
     ///
     /// Where it can't, the node is over, and its error is handed on: what is stored is as after a loss of power. Of a node that is over so it hands
     /// `put` nothing and answers `Ok`; `report` and `line` then say `Over`.

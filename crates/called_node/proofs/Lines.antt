@@ -1,11 +1,11 @@
 -- What a line says to the life that is there, and what comes of it.
-use Rattle.std.proofs.Common.{◌≡◌, ◌∙◌, ℕ, Bool, false, List, [], ◌∷◌, ◌++◌, length, Vec, Global, Option, Some, None, map, sym, ap, subst, refl, arith}
+use Rattle.std.proofs.Common.{◌≡◌, ◌∙◌, ℕ, ◌+◌, ◌<◌, ◌≤◌, Bool, false, List, [], ◌∷◌, ◌++◌, length, Vec, Global, Option, Some, None, map, sym, ap, subst, refl, arith}
 use Rattle.std.proofs.lemmas.List.{get_or-map, length-map}
 use Rattle.std.proofs.lemmas.List.Elements.{All-map}
 use Rattle.std.specs.Prelude.{All, IsSomeAnd}
 use Rattle.event_definitions.specs.Role.{Role}
 use Rattle.file_flash.specs.Handed.{IsHandedOut}
-use Rattle.file_flash.specs.Noted.{Put, written}
+use Rattle.file_flash.specs.Noted.{AreFronts, AreOnChip, Put, written}
 use Rattle.flash_model.specs.Chip.{Chip}
 use Rattle.live_lines.specs.Saying.{line_says, phase_of}
 use Rattle.live_lines.specs.declared.saying.Saying.{Saying}
@@ -16,6 +16,7 @@ use Rattle.mesh_types.specs.declared.events.Event.{Event}
 use Rattle.node_bearer.specs.Did.{AreEvents}
 use Rattle.script_definitions.specs.declared.line.ScriptLine.{ScriptLine}
 use Rattle.called_node.specs.Called.{CalledView, HasStory, IsBegun, IsGiven, IsLineDone, IsPhaseDone, IsSaid, IsTaken}
+use Rattle.called_node.proofs.Calling.{fronts_handed, moment_now, none_counted}
 
 abbrev or : {T : Type 0} → Option T → T → T
 or None d = d
@@ -99,8 +100,12 @@ module _ {F : Type 0} (role : Role) (image : List ℕ → Type 0) (chip : F → 
       → ((phases : List (List (List Event))) (did : List PhaseDid) → HasLived role image chip life phases did → HasLived role image chip begun phases did)
       → IsHandedOut (chip life.node.flash) (chip begun.node.flash) → begun ≡ record life { node = record life.node { flash = begun.node.flash } }
       → Some writes ≡ waiting life.node.flash → waiting begun.node.flash ≡ Some []
-      → written writes (chip life.node.flash).setting.saved ≡ (chip life.node.flash).now → IsBegun role image chip waiting life now
-  begun_is life begun writes erases now is usable begins held handed frame noted none makes = record {
+      → written writes (chip life.node.flash).setting.saved ≡ (chip life.node.flash).now
+      → AreOnChip writes (chip life.node.flash).setting.saved
+      → AreFronts writes (chip life.node.flash).setting.saved ((chip life.node.flash).since (chip life.node.flash).setting.moment)
+      → ((chip life.node.flash).changes < 4294967295 → (chip life.node.flash).setting.called + length writes ≤ (chip life.node.flash).changes)
+      → IsBegun role image chip waiting life now
+  begun_is life begun writes erases now is usable begins held handed frame noted none makes kinds fronts few = record {
     begun = begun;
     is = ap (λ (n : CalledView F). n.life) is;
     lived = held [] [] begins;
@@ -110,5 +115,13 @@ module _ {F : Type 0} (role : Role) (image : List ℕ → Type 0) (chip : F → 
     none = none;
     writes_are = ap (λ (n : CalledView F). written n.writes (chip life.node.flash).setting.saved) is ∙ makes ∙ sym handed.now;
     saved = ap (λ s. s.saved) handed.setting ∙ sym handed.now;
+    on_chip = subst (λ (n : CalledView F). AreOnChip n.writes (chip life.node.flash).setting.saved) (sym is) kinds;
+    fronts = subst (λ (n : CalledView F). AreFronts n.writes (chip life.node.flash).setting.saved ((chip begun.node.flash).since (chip life.node.flash).setting.moment)) (sym is)
+        (fronts_handed writes _ _ (chip life.node.flash) (chip begun.node.flash) handed fronts);
+    moment = moment_now (chip life.node.flash) (chip begun.node.flash) handed;
+    few = λ less.
+        let size : length now.writes ≡ length writes = ap (λ (n : CalledView F). length n.writes) is in
+        omega (arith, few (omega (arith, handed.changes, less)), size, handed.changes);
+    counted = none_counted chip life begun handed;
     no_report = ap (λ (n : CalledView F). n.report) is;
   }

@@ -1,9 +1,9 @@
 -- A node as calls: what a contract sees of it, and what a line does.
-use Rattle.std.specs.Prelude.{◌≡◌, ℕ, Bool, true, false, List, [], ◌∷◌, ◌++◌, All, IfSome, IsSomeAnd, Option, Some}
+use Rattle.std.specs.Prelude.{◌≡◌, ℕ, ◌+◌, ◌<◌, ◌≤◌, Bool, true, false, List, [], ◌∷◌, ◌++◌, length, All, IfSome, IsSomeAnd, Option, Some}
 use Rattle.std.specs.List.{flat_map}
 use Rattle.event_definitions.specs.Role.{Role}
 use Rattle.file_flash.specs.Handed.{IsHandedOut}
-use Rattle.file_flash.specs.Noted.{Put, written}
+use Rattle.file_flash.specs.Noted.{AreFronts, AreOnChip, Put, written}
 use Rattle.file_flash.specs.declared.noted.Write.{Write}
 use Rattle.file_flash.specs.declared.noted.Write.TheVariants as W
 use Rattle.flash_model.specs.Chip.{Chip}
@@ -74,6 +74,11 @@ module _ {F : Type 0} where
     pub lists_are : lists ≡ phase_of 1 line
     pub fits : All (AreEvents said.life.node.machine.elements) lists
 
+module _ {F : Type 0} (chip : F → Chip) where
+  -- no program or erase call was counted since the writes of its flash were handed out last
+  abbrev pub NoneCounted : HeldView F → Type 0
+  NoneCounted life = (chip life.node.flash).setting.called ≡ (chip life.node.flash).changes
+
 module _ {F : Type 0} (role : Role) (image : List ℕ → Type 0) (chip : F → Chip) where
   -- what was given to a life and told of it, as `HeldLife` has it
   abbrev pub Lived : HeldView F → List (List (List Event)) → List PhaseDid → Type 0
@@ -91,7 +96,10 @@ module _ {F : Type 0} (role : Role) (image : List ℕ → Type 0) (chip : F → 
 -- `waiting` is what waits of the writes that a flash noted.
 module _ {F : Type 0} (role : Role) (image : List ℕ → Type 0) (chip : F → Chip) (waiting : F → Option (List Put)) where
   -- A life did one phase more, of these events. The text is that of what it did. The writes, made in their order on what is there once all writes
-  -- of before were made, give what is read now. Some flash that reads the same could have noted them, in that order. None waits any more.
+  -- of before were made, give what is read now, each on a chip too, where a program call clears bits alone (`on_chip`). Each front of them, with its
+  -- last write torn or whole, is content that a power cut might have left of this flash since the writes of before were handed out (`fronts`).
+  -- They are at most so many as program and erase calls were counted in the phase (`few`), as long as the count isn't ffffffff. Some flash that
+  -- reads the same could have noted them, in that order. None waits any more.
   pub record IsPhaseDone (events : List (List Event)) (old new : HeldView F) (writes : List Put) (text : List ℕ) : Type 0 where
     pub did : PhaseDid
     pub part : IsPartDone new.node.machine.closed events did
@@ -100,6 +108,13 @@ module _ {F : Type 0} (role : Role) (image : List ℕ → Type 0) (chip : F → 
     pub text_is : text ≡ text_of did
     pub writes_are : written writes (chip old.node.flash).setting.saved ≡ (chip new.node.flash).now
     pub saved : (chip new.node.flash).setting.saved ≡ (chip new.node.flash).now
+    pub on_chip : AreOnChip writes (chip old.node.flash).setting.saved
+    pub fronts : AreFronts writes (chip old.node.flash).setting.saved ((chip new.node.flash).since (chip old.node.flash).setting.moment)
+    -- the next writes begin at this moment
+    pub moment : (chip new.node.flash).setting.moment ≡ (chip new.node.flash).moment
+    pub few : (chip new.node.flash).changes < 4294967295
+        → (chip old.node.flash).changes + length writes ≤ (chip new.node.flash).changes
+    pub counted : NoneCounted chip new
     pub taken_from : HeldView F
     pub frame : new ≡ record taken_from { node = record taken_from.node { flash = new.node.flash } }
     pub handed : IsHandedOut (chip taken_from.node.flash) (chip new.node.flash)
@@ -118,8 +133,10 @@ module _ {F : Type 0} (role : Role) (image : List ℕ → Type 0) (chip : F → 
     pub no_writes : old.writes ≡ []
     pub no_report : old.report ≡ []
 
-  -- A node as calls was made of this life, which is at its beginning. The writes, made on what is there, give what is read now. They are those that
-  -- the flash of this life had noted, in that order. None waits any more.
+  -- A node as calls was made of this life, which is at its beginning. The writes, made on what is there, give what is read now, each on a chip too
+  -- (`on_chip`). Each front of them, with its last write torn or whole, is content that a power cut might have left since the writes of its flash
+  -- were handed out last, or since it was made (`fronts`). They are those that the flash of this life had noted, in that order, and at most so
+  -- many as program and erase calls were counted since then, as long as the count isn't ffffffff (`few`). None waits any more.
   pub record IsBegun (life : HeldView F) (now : CalledView F) : Type 0 where
     pub begun : HeldView F
     pub is : now.life ≡ Some begun
@@ -130,4 +147,11 @@ module _ {F : Type 0} (role : Role) (image : List ℕ → Type 0) (chip : F → 
     pub none : waiting begun.node.flash ≡ Some []
     pub writes_are : written now.writes (chip life.node.flash).setting.saved ≡ (chip begun.node.flash).now
     pub saved : (chip begun.node.flash).setting.saved ≡ (chip begun.node.flash).now
+    pub on_chip : AreOnChip now.writes (chip life.node.flash).setting.saved
+    pub fronts : AreFronts now.writes (chip life.node.flash).setting.saved ((chip begun.node.flash).since (chip life.node.flash).setting.moment)
+    -- the next writes begin at this moment
+    pub moment : (chip begun.node.flash).setting.moment ≡ (chip begun.node.flash).moment
+    pub few : (chip begun.node.flash).changes < 4294967295
+        → (chip life.node.flash).setting.called + length now.writes ≤ (chip begun.node.flash).changes
+    pub counted : NoneCounted chip begun
     pub no_report : now.report ≡ []

@@ -7,7 +7,7 @@ ghost use Rattle.file_flash.specs.Noted.{IsInside, Put, put_of};
 ghost use Rattle.locked_node.specs.Stands.{IsDueNode, IsIdleNode};
 ghost use Rattle.mesh_node.specs.Held.{HasLived};
 ghost use Rattle.node_bearer.specs.Did.{AreEvents};
-ghost use Rattle.called_node.specs.Called.{HasStory, IsBegun, IsCause, IsGiven, IsLineDone, IsOver, IsPhaseDone, IsTaken, IsUsable, is_erase};
+ghost use Rattle.called_node.specs.Called.{HasStory, IsBegun, IsCause, IsGiven, IsLineDone, IsOver, IsPhaseDone, IsTaken, IsUsable, NoneCounted, is_erase};
 ghost use Rattle.called_node.specs.declared.called.Called.TheVariants as C;
 
 use crate::phase::{PhaseLeft, do_phase};
@@ -60,6 +60,7 @@ pub struct CalledNode<M: Machine, F: Flash + Send + Drop> {
     /// The text of the last phase, until it is taken.
     report: Vec<u8>,
     ghost story: { ForSome life (HasStory M.role M.image F.chip) },
+    ghost counted: { ForSome life (NoneCounted F.chip) },
     ghost few: { taken ≤ length writes.items },
     ghost inside: { All IsInside writes.items },
 }
@@ -97,6 +98,7 @@ fn do_line<M: Machine>(
     requires one { length lists.now ≡ 1 }
     requires events { All (λ v. AreEvents life.node.machine.elements v.items) lists.now }
     requires story { HasStory M.role M.image ⟦<NotedFlash as Flash>⟧.chip life }
+    requires counted { NoneCounted ⟦<NotedFlash as Flash>⟧.chip life }
     ensures story { IfOk result (λ r. HasStory M.role M.image ⟦<NotedFlash as Flash>⟧.chip r.life) }
     ensures inside { IfOk result (λ r. All IsInside r.writes.items) }
     ensures done { IfOk result
@@ -110,6 +112,7 @@ impl<M: Machine> CalledNode<M, NotedFlash> {
     /// A life with its first writes.
     fn begun(alloc: Global, life: HeldLife<M, NotedFlash>, writes: Vec<Write>) -> Self
         requires story { HasStory M.role M.image ⟦<NotedFlash as Flash>⟧.chip life }
+        requires counted { NoneCounted ⟦<NotedFlash as Flash>⟧.chip life }
         requires inside { All IsInside writes.items }
         ensures value { result
             ≡ record {
@@ -140,8 +143,8 @@ impl<M: Machine> CalledNode<M, NotedFlash> {
         CalledNode::begun(alloc, life, writes)
     }
 
-    /// The next write that isn't taken yet: octets for an offset of the image, within its 65,536, or an erase of a sector. Whoever takes it makes it
-    /// durable before the ones behind it, and all of them before the report leaves.
+    /// The next write that isn't taken yet: octets for an offset of the image, within one sector of its 65,536 octets, or an erase of a sector. Whoever
+    /// takes it makes it durable before the ones behind it, and all of them before the report leaves.
     pub fn next_write(&self) -> Option<&Write>
         ensures value { MatchOption result (self.now.writes ≡ [])
             (λ w. (rest : List Put) × (self.now.writes ≡ put_of w.now ∷ rest)) }
@@ -240,6 +243,7 @@ impl<M: Machine> CalledNode<M, NotedFlash> {
     /// Keeps what a phase left, until it is taken.
     fn keep(&mut self, left: PhaseLeft<M>)
         requires story { HasStory M.role M.image ⟦<NotedFlash as Flash>⟧.chip left.life }
+        requires counted { NoneCounted ⟦<NotedFlash as Flash>⟧.chip left.life }
         requires inside { All IsInside left.writes.items }
         ensures value { self.new
             ≡ record {

@@ -5,7 +5,7 @@ ghost use Rattle.std.specs.Prelude.{◌≡◌, [], ◌∷◌, false, map, All, I
 ghost use Rattle.file_flash.specs.Noted.{IsInside, put_of};
 ghost use Rattle.mesh_node.specs.Told.{IsPrintablePhase, did_of};
 ghost use Rattle.node_bearer.specs.Did.{AreEvents};
-ghost use Rattle.called_node.specs.Called.{HasStory, IsPhaseDone, text_of};
+ghost use Rattle.called_node.specs.Called.{HasStory, IsPhaseDone, NoneCounted, text_of};
 
 use file_flash::{Backing, NotedFlash, NotedPlace, Write};
 use flash_model::Flash;
@@ -55,6 +55,7 @@ pub(crate) fn do_phase<M: Machine>(
     requires usable { life.node.machine.closed ≡ false }
     requires events { AreEvents life.node.machine.elements events.now }
     requires story { HasStory M.role M.image ⟦<NotedFlash as Flash>⟧.chip life }
+    requires counted { NoneCounted ⟦<NotedFlash as Flash>⟧.chip life }
     ensures story { IfOk result (λ r. HasStory M.role M.image ⟦<NotedFlash as Flash>⟧.chip r.life) }
     ensures inside { IfOk result (λ r. All IsInside r.writes.items) }
     ensures done { IfOk result

@@ -1,8 +1,10 @@
 -- What the place holds behind a call.
 use Rattle.std.proofs.Common.{◌≡◌, ◌∙◌, ℕ, zero, suc, ◌+◌, ◌-◌, ◌≤◌, Bool, true, false, List, [], ◌∷◌, ◌++◌, length, take, drop, Some, None, refl, sym, ap, subst, ⊎_elim, arith, true≢false, append_assoc}
+use Rattle.std.proofs.lemmas.Nat.Bits.{bit_at_and, same_from_bits}
 use Rattle.std.proofs.lemmas.Slice.{drop-put_mid, take-put_mid}
 use borrow.Rule.Slice.PartMut.{put_mid}
-use Rattle.std.specs.Prelude.{Option, Result, Ok, Err, IsOk, OnOk, replicate, bit_and, slice_range}
+use Rattle.std.specs.Int.{bit_at}
+use Rattle.std.specs.Prelude.{Option, Result, Ok, Err, IsOk, OnOk, min, replicate, bit_and, slice_range}
 use Rattle.flash_model.specs.Chip.{Chip}
 use Rattle.flash_model.specs.Octets.{IsTorn, programmed, blanked}
 use Rattle.file_flash.specs.Backed.{IsKept, IsTied}
@@ -75,6 +77,22 @@ pub on_ok : {T E : Type 0} (P : Type 0) (r : Result T E) → IsOk r → OnOk r P
 on_ok P (Ok x) is h = h
 on_ok P (Err e) is h = absurd (true≢false (sym is))
 
+and_again : (x b : ℕ) → bit_and x (bit_and x b) ≡ bit_and x b
+and_again x b = same_from_bits _ _ (λ j.
+    bit_at_and x (bit_and x b) j ∙ ap (min (bit_at x j)) (bit_at_and x b j) ∙ (omega arith) ∙ sym (bit_at_and x b j))
+
+-- what was programmed, programmed again
+programmed_again : (at : ℕ) (bytes old : List ℕ) → programmed at (take (length bytes) (drop at (programmed at bytes old))) old ≡ programmed at bytes old
+programmed_again at bytes [] = refl
+programmed_again (suc at) bytes (x ∷ old) = ap (λ l. x ∷ l) (programmed_again at bytes old)
+programmed_again zero [] (x ∷ old) = refl
+programmed_again zero (b ∷ bytes) (x ∷ old) = ap (λ (y : ℕ). y ∷ programmed zero (take (length bytes) (programmed zero bytes old)) old) (and_again x b) ∙ ap (λ l. bit_and x b ∷ l) (programmed_again zero bytes old)
+
+pub range_again : (at : ℕ) (bytes old : List ℕ) → programmed at (slice_range (programmed at bytes old) at (at + length bytes)) old ≡ programmed at bytes old
+range_again at bytes old =
+    let n : at + length bytes - at ≡ length bytes = omega arith in
+    subst (λ (k : ℕ). programmed at (take k (drop at (programmed at bytes old))) old ≡ programmed at bytes old) (sym n) (programmed_again at bytes old)
+
 -- what the range holds that was programmed
 pub put_range : (at : ℕ) (bytes old : List ℕ) → put_at at (slice_range (programmed at bytes old) at (at + length bytes)) old ≡ programmed at bytes old
 put_range at bytes old =
@@ -107,9 +125,9 @@ put_part at k bytes old is h =
     ∙ append_assoc (take at old) bytes (drop e old) ∙ put_whole at e bytes old refl h
 
 -- ---- the writes that are noted
-written_more : (puts : List Put) (at : ℕ) (bytes old : List ℕ) → written (puts ++ record { at = at; octets = bytes } ∷ []) old ≡ put_at at bytes (written puts old)
-written_more [] at bytes old = refl
-written_more (p ∷ puts) at bytes old = written_more puts at bytes (put_at p.at p.octets old)
+written_more : (puts : List Put) (put : Put) (old : List ℕ) → written (puts ++ put ∷ []) old ≡ put_at put.at put.octets (written puts old)
+written_more [] put old = refl
+written_more (p ∷ puts) put old = written_more puts put (put_at p.at p.octets old)
 
 pub some_is : {A : Type 0} (a b : A) → ◌≡◌ {A = Option A} (Some a) (Some b) → a ≡ b
 some_is a b is = cc
@@ -118,11 +136,11 @@ pub none_some : {A : Type 0} (a : A) → ◌≡◌ {A = Option A} None (Some a) 
 none_some a is = cc
 
 -- one write more
-pub noted_put : (at : ℕ) (bytes saved now next : List ℕ) (old new : Option (List Put)) → new ≡ and_put at bytes old → AreNoted old saved now → put_at at bytes now ≡ next → AreNoted new saved next
-noted_put at bytes saved now next None new is h same puts some = absurd (none_some puts (sym is ∙ some))
-noted_put at bytes saved now next (Some before) new is h same puts some =
-    let all = some_is (before ++ record { at = at; octets = bytes } ∷ []) puts (sym is ∙ some) in
-    subst (λ (l : List Put). written l saved ≡ next) all (written_more before at bytes saved ∙ ap (put_at at bytes) (h before refl) ∙ same)
+pub noted_put : (put : Put) (saved now next : List ℕ) (old new : Option (List Put)) → new ≡ and_put put old → AreNoted old saved now → put_at put.at put.octets now ≡ next → AreNoted new saved next
+noted_put put saved now next None new is h same puts some = absurd (none_some puts (sym is ∙ some))
+noted_put put saved now next (Some before) new is h same puts some =
+    let all = some_is (before ++ put ∷ []) puts (sym is ∙ some) in
+    subst (λ (l : List Put). written l saved ≡ next) all (written_more before put saved ∙ ap (put_at put.at put.octets) (h before refl) ∙ same)
 
 -- none more
 pub noted_same : (saved now next : List ℕ) (old new : Option (List Put)) → new ≡ old → AreNoted old saved now → next ≡ now → AreNoted new saved next

@@ -4,7 +4,7 @@ use Rattle.flash_model.specs.Chip.{Chip}
 
 -- It is as it was, but that its setting is one of this moment: saved is what is read.
 pub record IsHandedOut (old new : Chip) : Type 0 where
-  pub setting : new.setting ≡ record old.setting { saved = old.now; moment = old.moment }
+  pub setting : new.setting ≡ record old.setting { saved = old.now; moment = old.moment; called = old.changes }
   pub now : new.now ≡ old.now
   pub images : (c : List ℕ) → new.images c → old.images c
   pub left_over : (c : List ℕ) → old.images c → new.images c
@@ -16,5 +16,7 @@ pub record IsHandedOut (old new : Chip) : Type 0 where
   pub faults : new.faults ≡ old.faults
   pub steady : new.steady ≡ old.steady
   pub changes : new.changes ≡ old.changes
+  pub erases : new.erases ≡ old.erases
+  pub octets : new.octets ≡ old.octets
   pub left : new.left ≡ old.left
   pub reads : new.reads ≡ old.reads

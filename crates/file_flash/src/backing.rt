@@ -1,7 +1,7 @@
 // A place of 65,536 octets that outlives the process. A flash doesn't know what it is: it only puts octets there.
-ghost use Rattle.std.specs.Prelude.{◌≡◌, ℕ, ◌+◌, ◌*◌, ◌<◌, ◌≤◌, List, Option, Some, None, length, replicate, OnOk, OnErr};
+ghost use Rattle.std.specs.Prelude.{◌≡◌, ℕ, ◌+◌, ◌*◌, ◌%◌, ◌<◌, ◌≤◌, List, Option, Some, None, length, replicate, OnOk, OnErr};
 ghost use Rattle.file_flash.specs.Backing.{WasPut, WasTorn, put_at};
-ghost use Rattle.file_flash.specs.Noted.{Put, and_put};
+ghost use Rattle.file_flash.specs.Noted.{Put, and_put, erase_put, program_put};
 
 use flash_model::{FLASH_OCTETS, SECTOR_OCTETS, SECTORS};
 use std::fs::File;
@@ -26,19 +26,21 @@ pub trait Backing: Drop {
     // The writes that the caller of the flash is still to make, where the place only notes them.
     ghost waiting: { Self → Option (List Put) };
 
-    /// Puts octets at an offset. They are durable once it answers Ok (`ok`), but for a place that only notes its writes.
+    /// Puts octets at an offset, within one sector. They are durable once it answers Ok (`ok`), but for a place that only notes its writes.
     ///
     /// # Errors
     ///
     /// `Refused`: each bit of the range is old or new then, all else as it was (`err`).
     fn put(&mut self, at: u32, bytes: &[u8]) -> Result<(), Refused>
         requires within { at + length bytes.now ≤ FLASH_OCTETS }
+        requires one_sector { at % SECTOR_OCTETS + length bytes.now ≤ SECTOR_OCTETS }
         ensures ok { OnOk result (WasPut at bytes.now (held self.old) (held self.new)) }
         ensures err { OnErr result (WasTorn at bytes.now (held self.old) (held self.new)) }
-        ensures noted { OnOk result (waiting self.new ≡ and_put at bytes.now (waiting self.old)) }
+        ensures noted { OnOk result (waiting self.new ≡ and_put (program_put at bytes.now) (waiting self.old)) }
         ensures unnoted { OnErr result (waiting self.new ≡ waiting self.old) };
 
-    /// Puts the octets of an erased sector, 4,096 octets ff, where the sector, 0 to 15, stands: as `put` of them, without octets to hand over.
+    /// Puts the octets of an erased sector, 4,096 octets ff, where the sector, 0 to 15, stands: as `put` of them, without octets to hand over. A place
+    /// that notes its writes notes an erase (`noted`).
     ///
     /// # Errors
     ///
@@ -47,7 +49,7 @@ pub trait Backing: Drop {
         requires sector { sector < SECTORS }
         ensures ok { OnOk result (WasPut (SECTOR_OCTETS * sector) (replicate SECTOR_OCTETS 255) (held self.old) (held self.new)) }
         ensures err { OnErr result (WasTorn (SECTOR_OCTETS * sector) (replicate SECTOR_OCTETS 255) (held self.old) (held self.new)) }
-        ensures noted { OnOk result (waiting self.new ≡ and_put (SECTOR_OCTETS * sector) (replicate SECTOR_OCTETS 255) (waiting self.old)) }
+        ensures noted { OnOk result (waiting self.new ≡ and_put (erase_put sector) (waiting self.old)) }
         ensures unnoted { OnErr result (waiting self.new ≡ waiting self.old) };
 }
 
@@ -112,6 +114,7 @@ impl Backing for MemBacking {
 
     fn put(&mut self, at: u32, bytes: &[u8]) -> Result<(), Refused>
         requires within { at + length bytes.now ≤ FLASH_OCTETS }
+        requires one_sector { at % SECTOR_OCTETS + length bytes.now ≤ SECTOR_OCTETS }
         ensures ok { OnOk result (WasPut at bytes.now (Some self.old.octets.items) (Some self.new.octets.items)) }
         ensures err { OnErr result (WasTorn at bytes.now (Some self.old.octets.items) (Some self.new.octets.items)) }
         ensures cause { OnErr result (self.old.calls ≡ 0) }

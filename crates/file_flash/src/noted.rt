@@ -1,10 +1,10 @@
 // A place that notes the writes which its caller makes.
-ghost use Rattle.std.specs.Prelude.{◌≡◌, ◌+◌, ◌≤◌, All, [], ◌∷◌, ◌++◌, length, map, Some, None, OnOk, OnErr};
+ghost use Rattle.std.specs.Prelude.{◌≡◌, ◌+◌, ◌%◌, ◌≤◌, All, [], ◌∷◌, ◌++◌, length, map, Some, None, OnOk, OnErr};
 ghost use Rattle.file_flash.specs.Backing.{WasPut, WasTorn};
-ghost use Rattle.file_flash.specs.Noted.{IsInside, and_put, put_of};
+ghost use Rattle.file_flash.specs.Noted.{IsInside, and_put, program_put, put_of};
 
 use crate::backing::{Backing, Refused};
-use flash_model::FLASH_OCTETS;
+use flash_model::{FLASH_OCTETS, SECTOR_OCTETS};
 use std::alloc::{AllocError, Global};
 use std::mem;
 
@@ -66,9 +66,10 @@ impl NotedPlace {
     /// `AllocError`: nothing was noted.
     fn note_octets(&mut self, at: u32, bytes: &[u8]) -> Result<(), AllocError>
         requires within { at + length bytes.now ≤ FLASH_OCTETS }
+        requires one_sector { at % SECTOR_OCTETS + length bytes.now ≤ SECTOR_OCTETS }
         ensures ok { OnOk result
             (map put_of self.new.writes.items
-            ≡ map put_of self.old.writes.items ++ record { at = at; octets = bytes.now } ∷ []) }
+            ≡ map put_of self.old.writes.items ++ program_put at bytes.now ∷ []) }
         ensures err { OnErr result (self.new.writes.items ≡ self.old.writes.items) }
     {
         let octets = bytes.to_vec(self.alloc)?;

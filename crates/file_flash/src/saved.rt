@@ -1,7 +1,8 @@
-// What was read of a flash when its setting was made. It takes memory for a word: the octets stand in the view of a seat, of which no value is kept.
-ghost use Rattle.std.specs.Prelude.{◌≡◌, ℕ, List, IfOk};
+// What was read of a flash when its setting was made, and what each of its calls was to do. It takes memory for a word: the octets stand in the view of
+// a seat, of which no value is kept.
+ghost use Rattle.std.specs.Prelude.{◌≡◌, ℕ, List, IfOk, length};
 ghost use Rattle.atomic_table.specs.Table.{Me};
-ghost use Rattle.file_flash.specs.Saved.{nothing_saved};
+ghost use Rattle.file_flash.specs.Saved.{call_noted, nothing_saved};
 
 use atomic_table::{Play, Seat, Table, TableRule};
 use flash_model::Flash;
@@ -9,12 +10,26 @@ use std::alloc::{AllocError, Global};
 use std::collections::LinkedList;
 use std::marker::{Brand, Model, PhantomData};
 
+/// A call of a flash. No value of it is made.
+pub struct Call {
+    /// The mirror's moment when it began.
+    pub began: u64,
+    /// The content that it found.
+    pub old: LinkedList<u8>,
+    /// The content that it was to leave.
+    pub new: LinkedList<u8>,
+}
+
 /// What the seat knows. No value of it is made.
 pub struct Saved {
     /// What was read.
     pub octets: LinkedList<u8>,
-    /// The moment then.
+    /// The moment then: how many calls there had been.
     pub moment: u64,
+    /// How many program and erase calls had been counted.
+    pub called: u64,
+    /// The calls since the flash was made, in their order.
+    pub calls: LinkedList<Call>,
 }
 
 /// The table has one word, and no rule.
@@ -32,7 +47,7 @@ impl TableRule<u8, Saved, u8> for Keeping {
 pub trait Shown {
     ghost octets: { List ℕ };
 
-    ghost moment: { ℕ };
+    ghost called: { ℕ };
 }
 
 impl Shown for Brand {
@@ -40,7 +55,7 @@ impl Shown for Brand {
 
     ghost octets = { [] };
 
-    ghost moment = { 0 };
+    ghost called = { 0 };
 }
 
 pub struct Saves<N>(PhantomData<N>);
@@ -48,7 +63,34 @@ pub struct Saves<N>(PhantomData<N>);
 impl<N: Shown> Play<u8, Saved> for Saves<N> {
     ghost use Rattle.file_flash.specs.Saved.{Stores};
 
-    ghost then = { Stores N.octets N.moment };
+    ghost then = { Stores N.octets N.called };
+}
+
+/// A call that begins.
+pub trait Beginning {
+    ghost began: { ℕ };
+
+    ghost old: { List ℕ };
+
+    ghost new: { List ℕ };
+}
+
+impl Beginning for Brand {
+    ghost use Rattle.std.specs.Prelude.{[]};
+
+    ghost began = { 0 };
+
+    ghost old = { [] };
+
+    ghost new = { [] };
+}
+
+pub struct NotesCall<N>(PhantomData<N>);
+
+impl<N: Beginning> Play<u8, Saved> for NotesCall<N> {
+    ghost use Rattle.file_flash.specs.Saved.{Notes};
+
+    ghost then = { Notes N.began N.old N.new };
 }
 
 /// The table and its seat. To a contract it is what was read.
@@ -78,11 +120,23 @@ impl Keeper {
         Ok(Keeper { table, seat })
     }
 
-    /// What is read of this flash now, and its moment.
+    /// What is read of this flash now, how many calls there were so far, and its count of program and erase calls.
     pub fn save<F: Flash>(&mut self, flash: &F)
-        ensures { self.new ≡ record { octets = (F.chip flash.now).now; moment = (F.chip flash.now).moment } }
+        ensures { self.new
+            ≡ record self.old {
+              octets = (F.chip flash.now).now;
+              moment = length self.old.calls;
+              called = (F.chip flash.now).changes;
+            } }
     {
         save_shown::<F, Brand>(&self.table, &mut self.seat, flash);
+    }
+
+    /// A call begins, which is to make what is read of the one flash what is read of the other.
+    pub fn note<F: Flash>(&mut self, mirror: &F, goal: &F)
+        ensures { self.new ≡ call_noted (F.chip mirror.now).moment (F.chip mirror.now).now (F.chip goal.now).now self.old }
+    {
+        note_call::<F, Brand>(&self.table, &mut self.seat, mirror, goal);
     }
 }
 
@@ -92,12 +146,36 @@ fn save_shown<F: Flash, N: Shown>(
     flash: &F,
 )
     requires octets { (F.chip flash.now).now ≡ N.octets }
-    requires moment { (F.chip flash.now).moment ≡ N.moment }
+    requires called { (F.chip flash.now).changes ≡ N.called }
     requires word { table.now.shared.table_id.words ≡ 1 }
     requires seat { seat.old.table_id ≡ table.now.shared.table_id }
     ensures seat { seat.new.table_id ≡ seat.old.table_id }
-    ensures saved { seat.new.me.0 ≡ record { octets = (F.chip flash.now).now; moment = (F.chip flash.now).moment } }
+    ensures saved { seat.new.me.0
+        ≡ record seat.old.me.0 {
+          octets = (F.chip flash.now).now;
+          moment = length seat.old.me.0.calls;
+          called = (F.chip flash.now).changes;
+        } }
 {
     let _ = flash;
     table.shared.store::<Saves<N>>(seat, 0, 0);
+}
+
+fn note_call<F: Flash, N: Beginning>(
+    table: &Table<u8, Saved, u8, Keeping, Global>,
+    seat: &mut Seat<u8, Saved>,
+    mirror: &F,
+    goal: &F,
+)
+    requires began { (F.chip mirror.now).moment ≡ N.began }
+    requires old { (F.chip mirror.now).now ≡ N.old }
+    requires new { (F.chip goal.now).now ≡ N.new }
+    requires word { table.now.shared.table_id.words ≡ 1 }
+    requires seat { seat.old.table_id ≡ table.now.shared.table_id }
+    ensures seat { seat.new.table_id ≡ seat.old.table_id }
+    ensures noted { seat.new.me.0 ≡ call_noted (F.chip mirror.now).moment (F.chip mirror.now).now (F.chip goal.now).now seat.old.me.0 }
+{
+    let _ = mirror;
+    let _ = goal;
+    table.shared.store::<NotesCall<N>>(seat, 0, 0);
 }

@@ -12,18 +12,18 @@ abbrev or : {T : Type 0} → Option T → T → T
 or None d = d
 or (Some x) d = x
 
-some_same : {T : Type 0} (a b : T) → Some a ≡ Some b → a ≡ b
+pub some_same : {T : Type 0} (a b : T) → Some a ≡ Some b → a ≡ b
 some_same a b e = ap (λ o. or o a) e
 
 module _ {F : Type 0} (chip : F → Chip) (waiting : F → Option (List Put)) where
   -- on what stands once all that was handed out is made, the writes that are left give what is read; behind a phase that is what its flash saved
-  record IsMade (base : List ℕ) (now : CalledView F) : Type 0 where
-    life : HeldView F
-    is : now.life ≡ Some life
-    made : written now.writes base ≡ (chip life.node.flash).now
-    saved : (chip life.node.flash).setting.saved ≡ (chip life.node.flash).now
+  pub record IsMade (base : List ℕ) (now : CalledView F) : Type 0 where
+    pub life : HeldView F
+    pub is : now.life ≡ Some life
+    pub made : written now.writes base ≡ (chip life.node.flash).now
+    pub saved : (chip life.node.flash).setting.saved ≡ (chip life.node.flash).now
 
-  opened_made : (image line : List ℕ) (now : CalledView F) → IsOpened chip waiting image line now → IsMade image now
+  pub opened_made : (image line : List ℕ) (now : CalledView F) → IsOpened chip waiting image line now → IsMade image now
   opened_made image line now o = record {
     life = o.begun.begun;
     is = o.begun.is;
@@ -31,7 +31,7 @@ module _ {F : Type 0} (chip : F → Chip) (waiting : F → Option (List Put)) wh
     saved = o.begun.saved;
   }
 
-  passed_made : (base : List ℕ) (old new : CalledView F) (put : Put) (erased : Bool) → IsMade base old → IsPassed old new put erased → IsMade (put_at put.at put.octets base) new
+  pub passed_made : (base : List ℕ) (old new : CalledView F) (put : Put) (erased : Bool) → IsMade base old → IsPassed old new put erased → IsMade (put_at put.at put.octets base) new
   passed_made base old new put erased m p = record {
     life = m.life;
     is = ap (λ (n : CalledView F). n.life) p.is ∙ m.is;
@@ -39,7 +39,7 @@ module _ {F : Type 0} (chip : F → Chip) (waiting : F → Option (List Put)) wh
     saved = m.saved;
   }
 
-  reported_made : (base : List ℕ) (old new : CalledView F) (text : List ℕ) → IsMade base old → IsReported old new text → IsMade base new
+  pub reported_made : (base : List ℕ) (old new : CalledView F) (text : List ℕ) → IsMade base old → IsReported old new text → IsMade base new
   reported_made base old new text m r = record {
     life = m.life;
     is = ap (λ (n : CalledView F). n.life) r.is ∙ m.is;
@@ -47,17 +47,18 @@ module _ {F : Type 0} (chip : F → Chip) (waiting : F → Option (List Put)) wh
     saved = m.saved;
   }
 
-  happened_made : (base : List ℕ) (old new : CalledView F) (line : List ℕ) → IsMade base old → IsPhase chip waiting line old new → IsMade base new
-  happened_made base old new line m h =
-      let same : m.life ≡ h.before = some_same m.life h.before (sym m.is ∙ h.was) in
-      let stands : base ≡ (chip h.before.node.flash).setting.saved =
-      ap (λ ws. written ws base) (sym h.no_writes) ∙ m.made ∙ sym m.saved ∙ ap (λ (l : HeldView F). (chip l.node.flash).setting.saved) same in
-      record {
-        life = h.behind;
-        is = h.is;
-        made = ap (written new.writes) stands ∙ h.done.writes_are;
-        saved = h.done.saved;
-      }
+  pub stands : (base : List ℕ) (old new : CalledView F) (line : List ℕ) → IsMade base old → (h : IsPhase chip waiting line old new)
+      → base ≡ (chip h.before.node.flash).setting.saved
+  stands base old new line m h =
+      ap (λ ws. written ws base) (sym h.no_writes) ∙ m.made ∙ sym m.saved ∙ ap (λ (l : HeldView F). (chip l.node.flash).setting.saved) (some_same m.life h.before (sym m.is ∙ h.was))
+
+  pub happened_made : (base : List ℕ) (old new : CalledView F) (line : List ℕ) → IsMade base old → IsPhase chip waiting line old new → IsMade base new
+  happened_made base old new line m h = record {
+    life = h.behind;
+    is = h.is;
+    made = ap (written new.writes) (stands base old new line m h) ∙ h.done.writes_are;
+    saved = h.done.saved;
+  }
 
   calls_made : (calls : List Call) (base : List ℕ) (old new : CalledView F) → IsMade base old → DidCalls chip waiting calls old new
       → IsMade (written (handed_out calls) base) new

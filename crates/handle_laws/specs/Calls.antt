@@ -1,7 +1,7 @@
 -- Calls of a node behind a pointer, one after another.
-use Rattle.std.specs.Prelude.{◌≡◌, ℕ, Bool, List, [], ◌∷◌, Option, Some}
+use Rattle.std.specs.Prelude.{◌≡◌, ℕ, ◌+◌, ◌<◌, ◌≤◌, Bool, List, [], ◌∷◌, ◌++◌, length, Option, Some}
 use Rattle.called_node.specs.Called.{CalledView}
-use Rattle.file_flash.specs.Noted.{Put, written}
+use Rattle.file_flash.specs.Noted.{AreFronts, AreOnChip, Put, written}
 use Rattle.flash_model.specs.Chip.{Chip}
 use Rattle.mesh_node.specs.Held.{HeldView}
 use Rattle.node_handle.specs.Nodes.{IsOpened, IsPassed, IsPhase, IsReported}
@@ -38,3 +38,34 @@ module _ {F : Type 0} (chip : F → Chip) (waiting : F → Option (List Put)) wh
   WritesMakeImage =
       (image line : List ℕ) (calls : List Call) (opened now : CalledView F) (life : HeldView F) → IsOpened chip waiting image line opened
       → DidCalls calls opened now → now.life ≡ Some life → written now.writes (written (handed_out calls) image) ≡ (chip life.node.flash).now
+
+  -- They are at most so many as program and erase calls were counted of that flash, from the image on, as long as that count isn't ffffffff.
+  abbrev pub WritesAreFew : Type 0
+  WritesAreFew =
+      (image line : List ℕ) (calls : List Call) (opened now : CalledView F) (life : HeldView F) → IsOpened chip waiting image line opened
+      → DidCalls calls opened now → now.life ≡ Some life → (chip life.node.flash).changes < 4294967295
+      → length (handed_out calls) + length now.writes ≤ (chip life.node.flash).changes
+
+  -- Each of them gives its octets on a chip too, where a program call clears bits alone.
+  abbrev pub WritesAreOnChip : Type 0
+  WritesAreOnChip =
+      (image line : List ℕ) (calls : List Call) (opened now : CalledView F) (life : HeldView F) → IsOpened chip waiting image line opened
+      → DidCalls calls opened now → now.life ≡ Some life → AreOnChip (handed_out calls ++ now.writes) image
+
+  -- What a power cut might have left of the flash of the life, till the first so many of these calls were made.
+  pub record MightBeLeft (opened : CalledView F) (calls : List Call) (c : List ℕ) : Type 0 where
+    pub front : List Call
+    pub back : List Call
+    pub is : calls ≡ front ++ back
+    pub at : CalledView F
+    pub did : DidCalls front opened at
+    pub life : HeldView F
+    pub there : at.life ≡ Some life
+    pub moment : ℕ
+    pub left : (chip life.node.flash).since moment c
+
+  -- Each front of them on the image that was opened, with the last write torn or whole, is such content.
+  abbrev pub WritesMayBeCut : Type 0
+  WritesMayBeCut =
+      (image line : List ℕ) (calls : List Call) (opened now : CalledView F) (life : HeldView F) → IsOpened chip waiting image line opened
+      → DidCalls calls opened now → now.life ≡ Some life → AreFronts (handed_out calls ++ now.writes) image (MightBeLeft opened calls)

@@ -65,6 +65,8 @@ module _ {F : Type 0} (chip : F → Chip) (waiting : F → Option (List Put)) wh
     pub first : IsFirstLine image line
     pub life : HeldView F
     pub start : (chip life.node.start).now ≡ image
+    -- its program and erase calls are counted from there
+    pub uncalled : (chip life.node.start).changes ≡ 0
     pub saved : (chip life.node.flash).setting.saved ≡ image
     pub begun : IsBegun (node_role node_layers) IsNode chip waiting life now
     pub writes : AreOfMigration image now.writes
@@ -85,8 +87,8 @@ pub record HasNext {F : Type 0} (now : CalledView F) (put : Put) (erased : Bool)
 
 -- The write that was told: an erase has 4,096 octets ff, any other one so many octets of the front of a slice.
 abbrev pub told_put : ℕ → Bool → ℕ → List ℕ → Put
-told_put at true size octets = record { at = at; octets = replicate 4096 255 }
-told_put at false size octets = record { at = at; octets = take size octets }
+told_put at true size octets = record { at = at; octets = replicate 4096 255; erase = true }
+told_put at false size octets = record { at = at; octets = take size octets; erase = false }
 
 -- What is told of an erase of a sector, beside where it begins. The slice is as it was.
 pub record IsErase (at size : ℕ) (before after : List ℕ) : Type 0 where

@@ -1,7 +1,7 @@
 //! The calls of a [`Meshnode`].
 #![tactic(auto)]
 
-ghost use Rattle.std.specs.Prelude.{◌≡◌, ◌≢◌, ◌⊎◌, ◌↔◌, ◌+◌, ◌<◌, ◌≤◌, [], None, false, length, take, true, IsSomeAnd};
+ghost use Rattle.std.specs.Prelude.{◌≡◌, ◌≢◌, ◌⊎◌, ◌↔◌, ◌+◌, ◌%◌, ◌<◌, ◌≤◌, [], None, false, length, take, true, IsSomeAnd};
 ghost use Rattle.event_definitions.specs.Role.{node_role};
 ghost use Rattle.file_flash.specs.Noted.{Put};
 ghost use Rattle.linked_node.specs.Causes.{IsOpenCause};
@@ -83,9 +83,9 @@ impl Meshnode {
     /// Takes the next write, in their order. `erased` tells whether it is an erase of a sector: then the 4,096 octets from `at` on, the sector's first,
     /// are to become ff, `size` is 4,096, and `octets` is as it was, however long it is. Else the octets are put into the front of `octets`, `size`
     /// tells how many, and `at` the offset in the image from which on they are to stand. Made one after another on the image of before, the writes
-    /// give the image that the node reads now; the caller makes each durable before the next, and all before the report leaves. As the code stands,
-    /// a write that is no erase lies within one sector and only clears bits. Where `octets` is too short for one `size` tells how many it must have,
-    /// and the write stays: 65,536 always do, and 31 as the code stands.
+    /// give the image that the node reads now; the caller makes each durable before the next, and all before the report leaves. A write lies within
+    /// one sector; one that is no erase only clears bits. Where `octets` is too short for one `size` tells how many it must have,
+    /// and the write stays: 4,096 always do, and 31 as the code stands.
     pub fn write(
         &mut self,
         alloc: Global,
@@ -99,9 +99,11 @@ impl Meshnode {
         ensures erase { result ≡ 0 → erased.new ≡ true → IsErase at.new size.new octets.old octets.new }
         ensures within { result ≡ 0 → erased.new ≡ false → size.new ≤ length octets.old }
         ensures inside { result ≡ 0 → at.new + size.new ≤ 65536 }
+        ensures one_sector { result ≡ 0 → at.new % 4096 + size.new ≤ 4096 }
         ensures length { result ≡ 1
             → IsSomeAnd self.old.value
             (λ n. (put : Put) × HasNext n.calls put false × (length octets.old < length put.octets) × (size.new ≡ length put.octets)) }
+        ensures most { result ≡ 1 → size.new ≤ 4096 }
         ensures nothing { result ≡ 10 → IsSomeAnd self.old.value (λ n. n.calls.writes ≡ []) }
         ensures empty { result ≡ 6 ↔ self.old.value ≡ None }
         ensures same { result ≢ 0

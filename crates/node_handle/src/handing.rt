@@ -1,7 +1,7 @@
 //! What the last phase left, handed out into slices.
 #![tactic(auto)]
 
-ghost use Rattle.std.specs.Prelude.{◌≡◌, ◌≢◌, ◌⊎◌, ◌+◌, ◌<◌, ◌≤◌, [], false, length, take, true};
+ghost use Rattle.std.specs.Prelude.{◌≡◌, ◌≢◌, ◌⊎◌, ◌+◌, ◌%◌, ◌<◌, ◌≤◌, [], false, length, take, true};
 ghost use Rattle.file_flash.specs.Noted.{IsInside, Put, put_of};
 ghost use Rattle.called_node.specs.Called.{is_erase};
 ghost use Rattle.node_handle.specs.Nodes.{HasNext, IsErase, IsPassed, IsReported, IsClosedAs, rule_of, status_of, told_put};
@@ -61,6 +61,8 @@ fn tell_write(
     ensures erase { result ≡ true → erased.new ≡ true → IsErase at.new size.new octets.old octets.new }
     ensures within { result ≡ true → erased.new ≡ false → size.new ≤ length octets.old }
     ensures inside { result ≡ true → at.new + size.new ≤ 65536 }
+    ensures one_sector { result ≡ true → at.new % 4096 + size.new ≤ 4096 }
+    ensures most { result ≡ false → size.new ≤ 4096 }
     ensures room { result ≡ false
         → (length octets.old < length (put_of write.now).octets) × (size.new ≡ length (put_of write.now).octets)
         × (is_erase write.now ≡ false) }
@@ -100,8 +102,10 @@ pub(crate) fn hand_write(
     ensures erase { result ≡ 0 → erased.new ≡ true → IsErase at.new size.new octets.old octets.new }
     ensures within { result ≡ 0 → erased.new ≡ false → size.new ≤ length octets.old }
     ensures inside { result ≡ 0 → at.new + size.new ≤ 65536 }
+    ensures one_sector { result ≡ 0 → at.new % 4096 + size.new ≤ 4096 }
     ensures length { result ≡ 1
         → (put : Put) × HasNext calls.old put false × (length octets.old < length put.octets) × (size.new ≡ length put.octets) }
+    ensures most { result ≡ 1 → size.new ≤ 4096 }
     ensures nothing { result ≡ 10 → calls.old.writes ≡ [] }
     ensures same { result ≢ 0
         → (calls.new ≡ calls.old) × (at.new ≡ at.old) × (octets.new ≡ octets.old) × (erased.new ≡ erased.old) }

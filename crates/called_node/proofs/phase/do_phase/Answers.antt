@@ -1,7 +1,7 @@
 use Rattle.std.proofs.Common.{◌∷◌, [], map}
 use Rattle.file_flash.specs.Noted.{put_of}
 use Rattle.mesh_node.specs.Told.{did_of}
-use Rattle.called_node.proofs.Calling.{IsBehind, phase_done, printed, story_more}
+use Rattle.called_node.proofs.Calling.{IsBehind, few_puts, phase_done, printed, story_more}
 use Rattle.called_node.proofs.phase.do_phase.Goals as goal
 
 pub report_text-requires : goal.report_text-requires
@@ -16,7 +16,12 @@ returns-clause-story g c =
       part = said.part;
       held = said.held;
       saved = said.saved;
+      called = said.called;
+      moment = said.moment;
       writes = out.ensures.writes;
+      on_chip = out.ensures.on_chip;
+      fronts = out.ensures.fronts;
+      few = few_puts out.result.items _ _ out.ensures.few;
       handed = out.ensures.flash;
       frame = out.ensures.frame;
       stays = out.ensures.held;
@@ -31,9 +36,14 @@ returns-clause-done g c =
       part = said.part;
       held = said.held;
       saved = said.saved;
+      called = said.called;
+      moment = said.moment;
       writes = out.ensures.writes;
+      on_chip = out.ensures.on_chip;
+      fronts = out.ensures.fronts;
+      few = few_puts out.result.items _ _ out.ensures.few;
       handed = out.ensures.flash;
       frame = out.ensures.frame;
       stays = out.ensures.held;
     } in
-    phase_done _ _ _ behind _ c.in_ok-report.report.items out.ensures.noted out.ensures.none c.in_ok-report.ensures.value
+    phase_done _ _ _ behind _ c.in_ok-report.report.items c.requires.counted out.ensures.noted out.ensures.none c.in_ok-report.ensures.value
