@@ -224,7 +224,7 @@ module _ (elements : ℕ) (entries : List Entry) where
       }
   parts_walk (broken {events = events} {part = part} does) h at r =
       let here : (k : ℕ) → Walked elements entries (of_bearer k part.entries) (list_at part.sends k) =
-      λ k. does_walk events part k (does k).0 (does k).1 h.0 (every_front (IsAt entries) part.entries _ at) (apart_front Earlier part.entries _ r) in
+      λ k. does_walk events part k (does k).left (does k).does h.0 (every_front (IsAt entries) part.entries _ at) (apart_front Earlier part.entries _ r) in
       record {
         origins = every_append (HasOrigin elements entries) part.entries [] (each_bearer (HasOrigin elements entries) part.entries (λ k. (here k).origins)) tt;
         shown = λ k. every_append (IsShown entries) (list_at part.sends k) [] (here k).shown tt;

@@ -16,11 +16,11 @@ use Rattle.turn_lock.specs.Entries.{added}
 use Rattle.turn_lock.proofs.Kept.{kept_at}
 use Rattle.locked_node.specs.declared.marks.Mark.{Mark}
 use Rattle.locked_node.specs.declared.marks.Mark.TheVariants as M
-use Rattle.locked_node.specs.Node.{NodeView, event_in, node_marks, stop_marks}
-use Rattle.node_bearer.specs.Did.{BearerOf, Broke, IsNext, marks_at}
+use Rattle.locked_node.specs.Node.{NodeView, event_in, handled_marks, node_marks, stop_marks}
+use Rattle.node_bearer.specs.Did.{AreMarksAt, BearerOf, Broke, IsNext}
 use Rattle.node_bearer.proofs.Lists.{get_longer}
 use Rattle.node_phase.specs.declared.bearers.Done.{Done}
-use Rattle.node_phase.specs.Part.{AreThrough, HadMemory, part_of, placed_of}
+use Rattle.node_phase.specs.Part.{AreThrough, HadMemory, part_of}
 use Rattle.node_phase.specs.Worked.{WasPhase, Worked, done_of, own_of}
 use Rattle.node_phase.proofs.Mine.{is_by, keep_mine, placed_marks, stop_dropped}
 use Rattle.node_phase.proofs.Parting.{entries_at, index_map, part_at, parts_of_phase}
@@ -37,17 +37,20 @@ get_shift [] ys m = ap (slice_get ys) (omega arith)
 get_shift (x ∷ xs) ys m = let one : suc (length xs) + m ≡ suc (length xs + m) = omega arith in ap (slice_get (x ∷ (xs ++ ys))) one ∙ get_shift xs ys m
 
 abbrev has_event : ℕ × Mark → Bool
-has_event (at, M.Handled e) = false
+has_event (at, M.Handled e move) = false
 has_event (at, M.Stopped None) = false
 has_event (at, M.Stopped (Some event)) = true
 
-no_event : (ps : List Placed) → filter has_event (marks_at ps) ≡ []
-no_event [] = refl
-no_event (p ∷ ps) = no_event ps
+no_event : (own : List (ℕ × Mark)) (ps : List Placed) → AreMarksAt own ps → filter has_event own ≡ []
+no_event [] [] h = refl
+no_event [] (p ∷ ps) h = absurd h
+no_event (x ∷ own) [] h = absurd h
+no_event (x ∷ own) (p ∷ ps) (move, is, rest) = ap (λ y. filter has_event (y ∷ own)) is ∙ no_event own ps rest
 
-some_event : (n : ℕ) (es : List Entry) (k : ℕ) (event : Event) → filter has_event (enumerate_from n (map M.Handled es ++ stop_marks (suc k) (Some event))) ≡ [] → ⊥
-some_event n [] k event h = cc
-some_event n (e ∷ es) k event h = some_event (n + 1) es k event h
+some_event : (n : ℕ) (es : List Entry) (ms : List ℕ) (k : ℕ) (event : Event) → filter has_event (enumerate_from n (handled_marks es ms ++ stop_marks (suc k) (Some event))) ≡ [] → ⊥
+some_event n [] ms k event h = cc
+some_event n (e ∷ es) [] k event h = some_event (n + 1) es [] k event h
+some_event n (e ∷ es) (m ∷ ms) k event h = some_event (n + 1) es ms k event h
 
 none_later : (n k at : ℕ) (event : Event) → Contains (enumerate_from n (replicate k (M.Stopped None))) (at, M.Stopped (Some event)) → ⊥
 none_later n zero at event (j, lt, e) = absurd (omega (arith, lt))
@@ -55,15 +58,17 @@ none_later n (suc k) at event (zero, lt, e) = true≢false (sym (ap has_event e)
 none_later n (suc k) at event (suc j, lt, e) = none_later (n + 1) k at event (j, omega (arith, lt), e)
 
 abbrev event_of : Mark → Option Event
-event_of (M.Handled e) = None
+event_of (M.Handled e move) = None
 event_of (M.Stopped hand) = hand
 
-one_event : (n : ℕ) (es : List Entry) (k : ℕ) (event other : Event) (at : ℕ) → Contains (enumerate_from n (map M.Handled es ++ stop_marks k (Some event))) (at, M.Stopped (Some other)) → other ≡ event
-one_event n [] zero event other at (j, lt, e) = absurd (omega (arith, lt))
-one_event n [] (suc k) event other at (zero, lt, e) = let same : Some event ≡ Some other = ap (λ x. event_of x.1) e in cc
-one_event n [] (suc k) event other at (suc j, lt, e) = absurd (none_later (n + 1) k at other (j, omega (arith, lt), e))
-one_event n (x ∷ es) k event other at (zero, lt, e) = absurd (true≢false (sym (ap has_event e)))
-one_event n (x ∷ es) k event other at (suc j, lt, e) = one_event (n + 1) es k event other at (j, omega (arith, lt), e)
+one_event : (n : ℕ) (es : List Entry) (ms : List ℕ) (k : ℕ) (event other : Event) (at : ℕ) → Contains (enumerate_from n (handled_marks es ms ++ stop_marks k (Some event))) (at, M.Stopped (Some other)) → other ≡ event
+one_event n [] ms zero event other at (j, lt, e) = absurd (omega (arith, lt))
+one_event n [] ms (suc k) event other at (zero, lt, e) = let same : Some event ≡ Some other = ap (λ x. event_of x.1) e in cc
+one_event n [] ms (suc k) event other at (suc j, lt, e) = absurd (none_later (n + 1) k at other (j, omega (arith, lt), e))
+one_event n (x ∷ es) [] k event other at (zero, lt, e) = absurd (true≢false (sym (ap has_event e)))
+one_event n (x ∷ es) [] k event other at (suc j, lt, e) = one_event (n + 1) es [] k event other at (j, omega (arith, lt), e)
+one_event n (x ∷ es) (m ∷ ms) k event other at (zero, lt, e) = absurd (true≢false (sym (ap has_event e)))
+one_event n (x ∷ es) (m ∷ ms) k event other at (suc j, lt, e) = one_event (n + 1) es ms k event other at (j, omega (arith, lt), e)
 
 less_or : (j n : ℕ) → (j < n) ⊎ (n ≤ j)
 less_or j zero = inr (omega arith)
@@ -124,32 +129,34 @@ module _ {F : Type 0} (phases : List (List (List Event))) (old new : NodeView F)
   next_of : (event : Event) (m : ℕ) → new.stops ≡ suc m → event_in new.machine.hand ≡ Some event → is_outside event ≡ true → (rest : List (List (List Event)))
       → (j : ℕ) (b : BearerOf F) (lt : j < length w.bearers) → Broke j (slice_index_or w.before j b).number (map handle (list_at events j)) (slice_index_or w.bearers j b)
       → filter has_event (slice_index_or w.bearers j b).pass.own ≢ [] → IsNextIn (phases ++ events ∷ rest) new.machine.entries event
-  next_of event m stops hand out rest j b lt broke some = by_hand broke.hand refl where
-    by_hand : (o : Option Event) → broke.hand ≡ o → IsNextIn (phases ++ events ∷ rest) new.machine.entries event
+  next_of event m stops hand out rest j b lt broke some = by_hand broke.is.hand refl where
+    by_hand : (o : Option Event) → broke.is.hand ≡ o → IsNextIn (phases ++ events ∷ rest) new.machine.entries event
     by_hand None is =
-        absurd (some (ap (filter has_event) (broke.own ∙ ap (λ o. broke.before ++ (broke.at, M.Stopped o) ∷ []) is) ∙ filter-append has_event broke.before ((broke.at, M.Stopped None) ∷ [])
-        ∙ append-nil (filter has_event broke.before) ∙ ap (filter has_event) broke.did.own_are ∙ no_event broke.did.entries))
+        absurd (some (ap (filter has_event) (broke.is.own ∙ ap (λ o. broke.is.before ++ (broke.is.at, M.Stopped o) ∷ []) is) ∙ filter-append has_event broke.is.before ((broke.is.at, M.Stopped None) ∷ [])
+        ∙ append-nil (filter has_event broke.is.before) ∙ no_event broke.is.before broke.is.did.entries broke.is.did.own_are))
     by_hand (Some ev) is =
-        let own = broke.own ∙ ap (λ o. broke.before ++ (broke.at, M.Stopped o) ∷ []) is in
-        let held = (w.holds j b lt).has (broke.at, M.Stopped (Some ev))
-        (subst (λ l. Contains l (broke.at, M.Stopped (Some ev))) (sym own) (Contains-append_right broke.before ((broke.at, M.Stopped (Some ev)) ∷ []) (broke.at, M.Stopped (Some ev)) (0, omega arith, refl))) in
-        let marks = came.marks ∙ ap (λ o. enumerate_from (length old.machine.entries) (map M.Handled came.more ++ stop_marks new.stops o)) hand in
-        let same : ev ≡ event = one_event (length old.machine.entries) came.more new.stops event ev broke.at (subst (λ l. Contains l (broke.at, M.Stopped (Some ev))) marks held) in
-        let next = subst (λ x. IsNext x broke.left) same (broke.next ev is) in
-        let here = next_out (list_at events j) broke.did.entries (slice_index_or w.bearers j b).lines.items event broke.left broke.did.walks next out in
-        let kept : filter (is_by j) (slice_index_or w.bearers j b).pass.own ≡ marks_at broke.did.entries =
-        ap (filter (is_by j)) broke.own ∙ stop_dropped j broke.at broke.hand broke.before ∙ ap (filter (is_by j)) broke.did.own_are ∙ keep_mine j broke.did.entries broke.did.bearer in
+        let own = broke.is.own ∙ ap (λ o. broke.is.before ++ (broke.is.at, M.Stopped o) ∷ []) is in
+        let held = (w.holds j b lt).has (broke.is.at, M.Stopped (Some ev))
+        (subst (λ l. Contains l (broke.is.at, M.Stopped (Some ev))) (sym own) (Contains-append_right broke.is.before ((broke.is.at, M.Stopped (Some ev)) ∷ []) (broke.is.at, M.Stopped (Some ev)) (0, omega arith, refl))) in
+        let marks = came.marks ∙ ap (λ o. enumerate_from (length old.machine.entries) (handled_marks came.more came.moves ++ stop_marks new.stops o)) hand in
+        let same : ev ≡ event = one_event (length old.machine.entries) came.more came.moves new.stops event ev broke.is.at (subst (λ l. Contains l (broke.is.at, M.Stopped (Some ev))) marks held) in
+        let next = subst (λ x. IsNext x broke.left) same (broke.is.next ev is) in
+        let here = next_out (list_at events j) broke.is.did.entries (slice_index_or w.bearers j b).lines.items event broke.left broke.is.did.walks next out in
+        let own_by : filter (is_by j) (slice_index_or w.bearers j b).pass.own ≡ filter (is_by j) broke.is.before = ap (filter (is_by j)) broke.is.own ∙ stop_dropped j broke.is.at broke.is.hand broke.is.before in
+        let kept : AreMarksAt (filter (is_by j) (slice_index_or w.bearers j b).pass.own) broke.is.did.entries =
+        subst (λ l. AreMarksAt l broke.is.did.entries) (sym (own_by ∙ keep_mine j broke.is.before broke.is.did.entries broke.is.did.own_are broke.is.did.bearer)) broke.is.did.own_are in
         let p = (part_at old new d e events counts dones w memory few j b lt).did in
-        let entries : of_bearer j part.entries ≡ broke.did.entries =
-        entries_at old new d e events counts dones w memory few j b lt ∙ sym (placed_marks p.entries) ∙ ap placed_of (sym p.kept ∙ kept) ∙ placed_marks broke.did.entries in
-        let through : length (outs (entries_by j new.machine.entries)) ≡ length (events_of phases j) + length (outs (map (λ (q : Placed). q.entry) broke.did.entries)) =
+        let mine = filter (is_by j) (slice_index_or w.bearers j b).pass.own in
+        let entries : of_bearer j part.entries ≡ broke.is.did.entries =
+        entries_at old new d e events counts dones w memory few j b lt ∙ sym (placed_marks mine p.entries p.kept) ∙ placed_marks mine broke.is.did.entries kept in
+        let through : length (outs (entries_by j new.machine.entries)) ≡ length (events_of phases j) + length (outs (map (λ (q : Placed). q.entry) broke.is.did.entries)) =
         ap length (outs_by j) ∙ length-append (events_of phases j) (outs (map (λ (q : Placed). q.entry) (of_bearer j part.entries)))
         ∙ ap (λ l. length (events_of phases j) + length (outs (map (λ (q : Placed). q.entry) l))) entries in
         record {
           bearer = j;
           next = ap (λ l. slice_get l (length (outs (entries_by j new.machine.entries)))) (events_more j rest) ∙ ap (slice_get (events_of phases j ++ (list_at events j ++ events_of rest j))) through
-              ∙ get_shift (events_of phases j) (list_at events j ++ events_of rest j) (length (outs (map (λ (q : Placed). q.entry) broke.did.entries)))
-              ∙ get_longer (list_at events j) (events_of rest j) (length (outs (map (λ (q : Placed). q.entry) broke.did.entries))) event here;
+              ∙ get_shift (events_of phases j) (list_at events j ++ events_of rest j) (length (outs (map (λ (q : Placed). q.entry) broke.is.did.entries)))
+              ∙ get_longer (list_at events j) (events_of rest j) (length (outs (map (λ (q : Placed). q.entry) broke.is.did.entries))) event here;
         }
 
   by_stop : (event : Event) (m : ℕ) → new.stops ≡ suc m → event_in new.machine.hand ≡ Some event → is_outside event ≡ true → (rest : List (List (List Event)))
@@ -158,7 +165,7 @@ module _ {F : Type 0} (phases : List (List (List Event))) (old new : NodeView F)
       → IsNextIn (phases ++ events ∷ rest) new.machine.entries event
   by_stop event m stops hand out rest j b lt None is worked some =
       let did = worked.did is in
-      absurd (some (ap (filter has_event) did.own_are ∙ no_event did.entries))
+      absurd (some (no_event (slice_index_or w.bearers j b).pass.own did.entries did.own_are))
   by_stop event m stops hand out rest j b lt (Some S.Closed) is worked some = next_of event m stops hand out rest j b lt (worked.broke S.Closed is) some
   by_stop event m stops hand out rest j b lt (Some S.Memory) is worked some =
       absurd (memory j (done_of b) (omega (arith, lt, ap length w.left, length-map w.bearers done_of)) (ap (λ xs. (slice_index_or xs j (done_of b)).stop) w.left ∙ ap (λ x. x.stop) (index_map done_of w.bearers j b (done_of b) lt) ∙ is))
@@ -168,9 +175,9 @@ module _ {F : Type 0} (phases : List (List (List Event))) (old new : NodeView F)
   nobody : (event : Event) (m : ℕ) → new.stops ≡ suc m → event_in new.machine.hand ≡ Some event → ((j : ℕ) → j < length lists → j ≢ 0 → filter has_event (slice_index_or lists j []) ≡ []) → ⊥
   nobody event m stops hand all =
       let kept : filter has_event (added (node_marks old) (node_marks new)) ≡ [] = w.kept has_event [] (kept_at has_event 0 lists [] [] (omega (arith, lists_long)) refl all) in
-      let marks = came.marks ∙ ap (λ o. enumerate_from (length old.machine.entries) (map M.Handled came.more ++ stop_marks new.stops o)) hand
-      ∙ ap (λ n. enumerate_from (length old.machine.entries) (map M.Handled came.more ++ stop_marks n (Some event))) stops in
-      some_event (length old.machine.entries) came.more m event (ap (filter has_event) (sym marks) ∙ kept)
+      let marks = came.marks ∙ ap (λ o. enumerate_from (length old.machine.entries) (handled_marks came.more came.moves ++ stop_marks new.stops o)) hand
+      ∙ ap (λ n. enumerate_from (length old.machine.entries) (handled_marks came.more came.moves ++ stop_marks n (Some event))) stops in
+      some_event (length old.machine.entries) came.more came.moves m event (ap (filter has_event) (sym marks) ∙ kept)
 
   all_lists : (b : BearerOf F) → ((j : ℕ) → j < length w.bearers → filter has_event (slice_index_or w.bearers j b).pass.own ≡ []) → (j : ℕ) → j < length lists → j ≢ 0 → filter has_event (slice_index_or lists j []) ≡ []
   all_lists b all zero lt n = absurd (n refl)

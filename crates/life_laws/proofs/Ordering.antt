@@ -96,5 +96,5 @@ module _ {F : Type 0} (phases : List (List (List Event))) (old new : NodeView F)
   broken_off rest = record {
     parts = h.parts ++ part ∷ [];
     fall = fall_more;
-    parts_are = h.done.before true (events ∷ rest) (part ∷ []) (broken (λ k. let q = (parts_of_phase old new d e events counts dones w memory few k).0 in (q.left, q.does)));
+    parts_are = h.done.before true (events ∷ rest) (part ∷ []) (broken (λ k. let q = (parts_of_phase old new d e events counts dones w memory few k).0 in record { left = q.left; does = q.does; stuck = q.stuck }));
   }

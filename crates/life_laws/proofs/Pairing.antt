@@ -1,12 +1,12 @@
 -- The lines of one phase more, and their pairs.
-use Rattle.std.proofs.Common.{◌≡◌, ◌≢◌, ◌∙◌, ℕ, zero, suc, ◌+◌, ◌<◌, Bool, true, false, List, [], ◌∷◌, ◌++◌, length, map, Option, Some, None, refl, sym, ap, subst, arith, append-nil, length-append}
+use Rattle.std.proofs.Common.{◌≡◌, ◌≢◌, ◌∙◌, ◌⊎◌, inr, ⊎_elim, ℕ, zero, suc, ◌+◌, ◌<◌, Bool, true, false, List, [], ◌∷◌, ◌++◌, length, map, Option, Some, None, refl, sym, ap, subst, arith, append-nil, length-append}
 use Rattle.std.specs.Prelude.{◌≤◌, ◌^◌, ◌==◌, All, AllPairs, option_and_then, replicate, slice_index_or}
 use Rattle.std.specs.List.{Contains, filter, filter_map, flat_map, slice_get}
 use Rattle.std.proofs.lemmas.List.Sums.{length-filter}
 use Rattle.node_phase.proofs.Mine.{kept_no, kept_yes}
 use Rattle.std.specs.Option.{option_map}
 use Rattle.std.proofs.lemmas.List.{length-map, map-append}
-use Rattle.std.proofs.lemmas.List.Elements.{All-append, All-contains, All-nil, All-head, All-tail, Contains-append_left, Contains-append_right, Contains-get_or, filter-append, filter_map-append}
+use Rattle.std.proofs.lemmas.List.Elements.{All-append, All-cons, All-contains, All-nil, All-head, All-tail, Contains-append_left, Contains-append_right, Contains-get_or, filter-append, filter_map-append}
 use Rattle.std.proofs.lemmas.List.Kept.{AllPairs-cons}
 use Rattle.std.proofs.lemmas.Bool.Decides.{nat_tests}
 use Rattle.mesh_base.specs.Pairs.{word_of}
@@ -28,48 +28,78 @@ use Rattle.seq_word.specs.declared.looks.Look.{Look}
 use Rattle.seq_word.specs.declared.looks.Look.TheVariants as saw
 use Rattle.locked_node.specs.declared.marks.Mark.{Mark}
 use Rattle.locked_node.specs.declared.marks.Mark.TheVariants as M
-use Rattle.locked_node.specs.Node.{NodeView, event_in, node_marks, stop_marks}
+use Rattle.locked_node.specs.Node.{NodeView, event_in, handled_marks, node_marks, stop_marks}
 use Rattle.node_bearer.specs.Did.{BearerOf, Did}
-use Rattle.node_bearer.specs.Marked.{AreShown, HasOwnLooks, IsSpentSeen, end_told, ends_told, shown_at, shown_in, words_seen}
+use Rattle.node_bearer.specs.Marked.{AreShown, HasOwnLooks, IsFrom, IsSpentSeen, end_told, ends_told, shown_at, shown_in, words_seen}
 use Rattle.node_bearer.proofs.Doing.{shown_prefix, told_each, words_more}
 use Rattle.node_bearer.proofs.Lists.{get_longer, times_append}
 use Rattle.node_phase.specs.declared.bearers.Done.{Done}
 use Rattle.node_phase.specs.Part.{HadMemory, lines_of}
 use Rattle.node_phase.specs.Worked.{WasPhase, Worked, done_of, drawn_by, looks_by}
 use Rattle.node_phase.proofs.Parting.{index_map}
-use Rattle.life_laws.specs.Pairs.{AreShownBy, PairsSo, ShowsIn, all_of, all_shown}
+use Rattle.life_laws.specs.Pairs.{AreShownBy, IsFromMove, PairsSo, ShowsIn, all_of, all_shown}
 use Rattle.life_laws.specs.Phases.{both_of}
-use Rattle.life_laws.proofs.Placing.{CameTo, came_to}
+use Rattle.life_laws.proofs.Placing.{CameTo, IsMoveOf, came_to, no_item}
 
 -- An entry that is shown among the marks is among the entries.
-stop_is_none : (k : ℕ) (i : ℕ) (e : Entry) → slice_get (replicate k (M.Stopped None)) i ≡ Some (M.Handled e) → ⊥
-stop_is_none zero i e h = cc
-stop_is_none (suc k) zero e h = cc
-stop_is_none (suc k) (suc i) e h = stop_is_none k i e h
+stop_is_none : (k : ℕ) (i : ℕ) (e : Entry) (move : ℕ) → slice_get (replicate k (M.Stopped None)) i ≡ Some (M.Handled e move) → ⊥
+stop_is_none zero i e move h = cc
+stop_is_none (suc k) zero e move h = cc
+stop_is_none (suc k) (suc i) e move h = stop_is_none k i e move h
 
-unmarked : (es : List Entry) (k : ℕ) (event : Option Event) (i : ℕ) (e : Entry) → slice_get (map M.Handled es ++ stop_marks k event) i ≡ Some (M.Handled e) → slice_get es i ≡ Some e
-unmarked [] zero event i e h = cc
-unmarked [] (suc k) event zero e h = cc
-unmarked [] (suc k) event (suc i) e h = absurd (stop_is_none k i e h)
-unmarked (x ∷ es) k event zero e h = let one : M.Handled x ≡ M.Handled e = cc in cc
-unmarked (x ∷ es) k event (suc i) e h = unmarked es k event i e h
+unmarked : (es : List Entry) (ms : List ℕ) (k : ℕ) (event : Option Event) (i : ℕ) (e : Entry) (move : ℕ) → slice_get (handled_marks es ms ++ stop_marks k event) i ≡ Some (M.Handled e move) → slice_get es i ≡ Some e
+unmarked [] ms zero event i e move h = cc
+unmarked [] ms (suc k) event zero e move h = cc
+unmarked [] ms (suc k) event (suc i) e move h = absurd (stop_is_none k i e move h)
+unmarked (x ∷ es) [] k event zero e move h = let one : M.Handled x 0 ≡ M.Handled e move = cc in cc
+unmarked (x ∷ es) [] k event (suc i) e move h = unmarked es [] k event i e move h
+unmarked (x ∷ es) (m ∷ ms) k event zero e move h = let one : M.Handled x m ≡ M.Handled e move = cc in cc
+unmarked (x ∷ es) (m ∷ ms) k event (suc i) e move h = unmarked es ms k event i e move h
 
-shown_mark : (es : List Entry) (k : ℕ) (event : Option Event) (s : Sent) (y : Shown) (o : Option Mark) → slice_get (map M.Handled es ++ stop_marks k event) s.entry ≡ o
+shown_mark : (es : List Entry) (ms : List ℕ) (k : ℕ) (event : Option Event) (s : Sent) (y : Shown) (o : Option Mark) → slice_get (handled_marks es ms ++ stop_marks k event) s.entry ≡ o
     → option_and_then (λ m. shown_at m s) o ≡ Some y → shown_of es s ≡ Some y
-shown_mark es k event s y None e h = cc
-shown_mark es k event s y (Some (M.Stopped hand)) e h = cc
-shown_mark es k event s y (Some (M.Handled x)) e h = rw (unmarked es k event s.entry x e) h
+shown_mark es ms k event s y None e h = cc
+shown_mark es ms k event s y (Some (M.Stopped hand)) e h = cc
+shown_mark es ms k event s y (Some (M.Handled x move)) e h = rw (unmarked es ms k event s.entry x move e) h
 
-found_entries : (es : List Entry) (k : ℕ) (event : Option Event) (lines : List Sent) (shows : List Shown) → map (shown_in (map M.Handled es ++ stop_marks k event)) lines ≡ map Some shows
+found_entries : (es : List Entry) (ms : List ℕ) (k : ℕ) (event : Option Event) (lines : List Sent) (shows : List Shown) → map (shown_in (handled_marks es ms ++ stop_marks k event)) lines ≡ map Some shows
     → map (shown_of es) lines ≡ map Some shows
-found_entries es k event [] shows h = h
-found_entries es k event (s ∷ lines) [] h = cc
-found_entries es k event (s ∷ lines) (y ∷ shows) h =
-    let head : shown_in (map M.Handled es ++ stop_marks k event) s ≡ Some y = cc in
-    let tail : map (shown_in (map M.Handled es ++ stop_marks k event)) lines ≡ map Some shows = cc in
-    let one = shown_mark es k event s y (slice_get (map M.Handled es ++ stop_marks k event) s.entry) refl head in
-    let more = found_entries es k event lines shows tail in
+found_entries es ms k event [] shows h = h
+found_entries es ms k event (s ∷ lines) [] h = cc
+found_entries es ms k event (s ∷ lines) (y ∷ shows) h =
+    let head : shown_in (handled_marks es ms ++ stop_marks k event) s ≡ Some y = cc in
+    let tail : map (shown_in (handled_marks es ms ++ stop_marks k event)) lines ≡ map Some shows = cc in
+    let one = shown_mark es ms k event s y (slice_get (handled_marks es ms ++ stop_marks k event) s.entry) refl head in
+    let more = found_entries es ms k event lines shows tail in
     cc
+
+-- an entry that is shown, and the move behind it, are among the marks
+marked : (es : List Entry) (ms : List ℕ) (k : ℕ) (event : Option Event) (i : ℕ) (e : Entry) (move : ℕ) → slice_get es i ≡ Some e → slice_get ms i ≡ Some move
+    → slice_get (handled_marks es ms ++ stop_marks k event) i ≡ Some (M.Handled e move)
+marked [] ms k event i e move here has = absurd (no_item i e here)
+marked (x ∷ es) [] k event i e move here has = absurd (no_item i move has)
+marked (x ∷ es) (m ∷ ms) k event zero e move here has =
+    let first : Some x ≡ Some e = here in
+    let second : Some m ≡ Some move = has in
+    let one : x ≡ e = cc in
+    let two : m ≡ move = cc in
+    cc
+marked (x ∷ es) (m ∷ ms) k event (suc i) e move here has = marked es ms k event i e move here has
+
+abbrev shown_by : Sent → Entry → Option Shown
+shown_by s e = option_map (λ job. record { entry = e; job = job; outcome = s.outcome }) (slice_get e.jobs s.job)
+
+entry_there : (es : List Entry) (s : Sent) (y : Shown) (o : Option Entry) → slice_get es s.entry ≡ o → option_and_then (shown_by s) o ≡ Some y → (e : Entry) × (slice_get es s.entry ≡ Some e)
+entry_there es s y None is h = let bad : None ≡ Some y = h in absurd (no_item 0 y bad)
+entry_there es s y (Some e) is h = (e, is)
+
+from_marks : (es : List Entry) (ms : List ℕ) (k : ℕ) (event : Option Event) (s : Sent) → IsFrom (handled_marks es ms ++ stop_marks k event) s → IsFromMove es ms s
+from_marks es ms k event s h = λ line move word shown has told.
+    let there = entry_there es s line (slice_get es s.entry) refl shown in
+    let mark : slice_get (handled_marks es ms ++ stop_marks k event) s.entry ≡ Some (M.Handled there.0 move) = marked es ms k event s.entry there.0 move there.1 has in
+    let same : shown_in (handled_marks es ms ++ stop_marks k event) s ≡ shown_by s there.0 = ap (option_and_then (λ m. shown_at m s)) mark in
+    let other : shown_of es s ≡ shown_by s there.0 = ap (option_and_then (shown_by s)) there.1 in
+    h line (M.Handled there.0 move) word (same ∙ sym other ∙ shown) mark told
 
 -- more entries, and more looks
 shown_of_more : (es more : List Entry) (s : Sent) (y : Shown) (o : Option Entry) → slice_get es s.entry ≡ o
@@ -91,9 +121,32 @@ spent_in : (looks more : List Look) (o : Outcome) → ((x : Look) → Contains l
 spent_in looks more (O.Spent iv) f h = f _ h
 spent_in looks more _ f h = tt
 
-shows_more : (es new : List Entry) (lines : List Sent) (drawn : List ℕ) (looks more : List Look) (came : List Entry) → new ≡ es ++ came → ((x : Look) → Contains looks x → Contains more x)
-    → ShowsIn es lines drawn looks → ShowsIn new lines drawn more
-shows_more es new lines drawn looks more came is f h = record {
+no_more : {A : Type 0} (x : A) (xs : List A) → x ∷ xs ≡ [] → ⊥
+no_more x xs h = cc
+
+found_each : (f : Sent → Option Shown) (lines : List Sent) (shows : List Shown) → map f lines ≡ map Some shows → (k : ℕ) (s : Sent) → k < length lines → (y : Shown) × (f (slice_index_or lines k s) ≡ Some y)
+found_each f [] shows h k s lt = absurd (omega (arith, lt))
+found_each f (x ∷ lines) [] h k s lt = absurd (no_more (f x) (map f lines) h)
+found_each f (x ∷ lines) (y ∷ shows) h zero s lt = let head : f x ≡ Some y = cc in (y, head)
+found_each f (x ∷ lines) (y ∷ shows) h (suc k) s lt = let tail : map f lines ≡ map Some shows = cc in found_each f lines shows tail k s (omega (arith, lt))
+
+-- what stood behind entries of before are the moves there still
+abbrev AreKept : List Entry → List ℕ → List ℕ → Type 0
+AreKept es ms ns = (i move : ℕ) (e : Entry) → slice_get es i ≡ Some e → slice_get ns i ≡ Some move → IsMoveOf ms i move
+
+least : (move word : ℕ) → move ≡ 0 → move ≤ word
+least move word none = omega (arith, none)
+
+from_more : (es new : List Entry) (ms ns : List ℕ) (came : List Entry) → new ≡ es ++ came → AreKept es ms ns → (s : Sent) (y : Shown) → shown_of es s ≡ Some y → IsFromMove es ms s → IsFromMove new ns s
+from_more es new ms ns came is kept s y found h = λ line move word shown has told.
+    let there = entry_there es s y (slice_get es s.entry) refl found in
+    let now : shown_of new s ≡ Some y = subst (λ l. shown_of l s ≡ Some y) (sym is) (shown_of_more es came s y (slice_get es s.entry) refl found) in
+    let same : Some y ≡ Some line = sym now ∙ shown in
+    ⊎_elim (least move word) (λ had. h line move word (found ∙ same) had told) (kept s.entry move there.0 there.1 has)
+
+shows_more : (es new : List Entry) (ms ns : List ℕ) (lines : List Sent) (drawn : List ℕ) (looks more : List Look) (came : List Entry) → new ≡ es ++ came → AreKept es ms ns → ((x : Look) → Contains looks x → Contains more x)
+    → ShowsIn es ms lines drawn looks → ShowsIn new ns lines drawn more
+shows_more es new ms ns lines drawn looks more came is kept f h = record {
   shows = h.shows;
   found = subst (λ l. map (shown_of l) lines ≡ map Some h.shows) (sym is) (found_more es came lines h.shows h.found);
   short = h.short;
@@ -101,6 +154,7 @@ shows_more es new lines drawn looks more came is f h = record {
   seq = h.seq;
   spent = λ k d lt. spent_in looks more _ f (h.spent k d lt);
   onward = h.onward;
+  from = λ k s lt. let y = found_each (shown_of es) lines h.shows h.found k s lt in from_more es new ms ns came is kept (slice_index_or lines k s) y.0 y.1 (h.from k s lt);
 }
 
 pairs_append : (R : ℕ → ℕ → Type 0) (xs ys : List ℕ) → AllPairs R xs → AllPairs R ys → All (λ y. All (λ x. R x y) xs) ys → AllPairs R (xs ++ ys)
@@ -111,9 +165,9 @@ pairs_append R (x ∷ xs) ys p q h =
     (pairs_append R xs ys (λ i j d lt within. p (suc i) (suc j) d (omega (arith, lt)) (omega (arith, within))) q (λ k d lt. All-tail (λ z. R z (slice_index_or ys k d)) x xs (h k d lt)))
 
 -- lines behind others
-shows_both : (es : List Entry) (a b : List Sent) (v w : List ℕ) (looks : List Look) (h : ShowsIn es a v looks) (k : ShowsIn es b w looks) → All (λ y. All (λ x. x ≤ y) (words_told h.shows)) (words_told k.shows)
-    → ShowsIn es (a ++ b) (v ++ w) looks
-shows_both es a b v w looks h k over =
+shows_both : (es : List Entry) (ms : List ℕ) (a b : List Sent) (v w : List ℕ) (looks : List Look) (h : ShowsIn es ms a v looks) (k : ShowsIn es ms b w looks) → All (λ y. All (λ x. x ≤ y) (words_told h.shows)) (words_told k.shows)
+    → ShowsIn es ms (a ++ b) (v ++ w) looks
+shows_both es ms a b v w looks h k over =
     let told : words_told (h.shows ++ k.shows) ≡ words_told h.shows ++ words_told k.shows = filter_map-append (λ (s : Shown). word_told s.job s.outcome) h.shows k.shows in
     let more : draws (h.shows ++ k.shows) ≡ draws h.shows ++ draws k.shows = filter_map-append (λ (s : Shown). drawn_of s.job s.outcome) h.shows k.shows in
     record {
@@ -124,6 +178,7 @@ shows_both es a b v w looks h k over =
       seq = subst (All (λ p. p.seq < 2 ^ 24)) (sym more) (All-append (λ p. p.seq < 2 ^ 24) (draws h.shows) (draws k.shows) h.seq k.seq);
       spent = All-append (λ s. IsSpentSeen looks s.outcome) h.shows k.shows h.spent k.spent;
       onward = subst (AllPairs (λ x y. x ≤ y)) (sym told) (pairs_append (λ x y. x ≤ y) (words_told h.shows) (words_told k.shows) h.onward k.onward over);
+      from = All-append (IsFromMove es ms) a b h.from k.from;
     }
 
 -- how often a word stands there
@@ -173,49 +228,49 @@ record IsOver (d : DrawerView) (word : ℕ) : Type 0 where
   pub looks : All (IsPast word) d.looks
 
 -- what one bearer did in the phase, among the entries and the looks behind it
-record ShownOf {F : Type 0} (entries : List Entry) (d : DrawerView) (looks : List Look) (b : BearerOf F) : Type 0 where
-  pub shown : ShowsIn entries b.lines.items b.drawer.drawn looks
+record ShownOf {F : Type 0} (entries : List Entry) (ms : List ℕ) (d : DrawerView) (looks : List Look) (b : BearerOf F) : Type 0 where
+  pub shown : ShowsIn entries ms b.lines.items b.drawer.drawn looks
   pub rise : AllPairs (λ x y. x < y) b.drawer.drawn
   pub above : All (λ x. All (λ y. y < x) d.drawn) b.drawer.drawn
   pub over : All (IsOver d) (words_told shown.shows)
 
 -- the word of a line is not below one that is told by lines of before
-over_told : (entries : List Entry) (lines : List Sent) (w : List ℕ) (d : DrawerView) (h : ShowsIn entries lines w d.looks) → ((x : ℕ) → Contains w x → Contains d.drawn x) → (word : ℕ) → IsOver d word
+over_told : (entries : List Entry) (ms : List ℕ) (lines : List Sent) (w : List ℕ) (d : DrawerView) (h : ShowsIn entries ms lines w d.looks) → ((x : ℕ) → Contains w x → Contains d.drawn x) → (word : ℕ) → IsOver d word
     → All (λ x. x ≤ word) (words_told h.shows)
-over_told entries lines w d h within word over =
+over_told entries ms lines w d h within word over =
     told_each (λ x. x ≤ word) d.looks (λ x c. All-contains (IsPast word) d.looks (saw.Counter x) over.looks c) h.shows
     (subst (All (λ x. x ≤ word)) (sym h.drawing)
     (λ k x lt. let below : slice_index_or w k x < word = All-contains (λ y. y < word) d.drawn (slice_index_or w k x) over.drawn (within (slice_index_or w k x) (Contains-get_or w k x lt)) in omega (arith, below)))
     h.spent
 
 -- each list of bearers, behind those of before
-shown_all : {F : Type 0} (entries : List Entry) (d : DrawerView) (looks : List Look) (f : (x : Look) → Contains d.looks x → Contains looks x) (sends : List (List Sent)) (drawns : List (List ℕ)) (bs : List (BearerOf F))
-    → AreShownBy entries sends drawns d.looks → ((x : ℕ) → Contains (all_of drawns) x → Contains d.drawn x) → All (ShownOf entries d looks) bs → length sends ≡ length bs
-    → AreShownBy entries (both_of sends (map lines_of (map done_of bs))) (both_of drawns (map drawn_by bs)) looks
+shown_all : {F : Type 0} (entries : List Entry) (ms : List ℕ) (d : DrawerView) (looks : List Look) (f : (x : Look) → Contains d.looks x → Contains looks x) (sends : List (List Sent)) (drawns : List (List ℕ)) (bs : List (BearerOf F))
+    → AreShownBy entries ms sends drawns d.looks → ((x : ℕ) → Contains (all_of drawns) x → Contains d.drawn x) → All (ShownOf entries ms d looks) bs → length sends ≡ length bs
+    → AreShownBy entries ms (both_of sends (map lines_of (map done_of bs))) (both_of drawns (map drawn_by bs)) looks
 unfolding shows_more
-shown_all entries d looks f [] [] [] h within each same = tt
-shown_all entries d looks f [] [] (b ∷ bs) h within each same = absurd (omega (arith, same))
-shown_all entries d looks f [] (w ∷ drawns) bs h within each same = absurd h
-shown_all entries d looks f (s ∷ sends) [] bs h within each same = absurd h
-shown_all entries d looks f (s ∷ sends) (w ∷ drawns) [] h within each same = absurd (omega (arith, same))
-shown_all entries d looks f (s ∷ sends) (w ∷ drawns) (b ∷ bs) h within each same =
-    let one = All-head (ShownOf entries d looks) b bs each in
+shown_all entries ms d looks f [] [] [] h within each same = tt
+shown_all entries ms d looks f [] [] (b ∷ bs) h within each same = absurd (omega (arith, same))
+shown_all entries ms d looks f [] (w ∷ drawns) bs h within each same = absurd h
+shown_all entries ms d looks f (s ∷ sends) [] bs h within each same = absurd h
+shown_all entries ms d looks f (s ∷ sends) (w ∷ drawns) [] h within each same = absurd (omega (arith, same))
+shown_all entries ms d looks f (s ∷ sends) (w ∷ drawns) (b ∷ bs) h within each same =
+    let one = All-head (ShownOf entries ms d looks) b bs each in
     let below : All (λ y. All (λ x. x < y) w) b.drawer.drawn =
     λ k e lt j f lt'. All-contains (λ x. x < slice_index_or b.drawer.drawn k e) d.drawn (slice_index_or w j f) (one.above k e lt)
     (within (slice_index_or w j f) (Contains-append_left w (all_of drawns) (slice_index_or w j f) (Contains-get_or w j f lt'))) in
     let over : All (λ y. All (λ x. x ≤ y) (words_told h.0.shows)) (words_told one.shown.shows) =
-    λ k e lt. over_told entries s w d h.0 (λ x c. within x (Contains-append_left w (all_of drawns) x c)) (slice_index_or (words_told one.shown.shows) k e) (one.over k e lt) in (
-      shows_both entries s b.lines.items w b.drawer.drawn looks (shows_more entries entries s w d.looks looks [] (sym (append-nil entries)) f h.0) one.shown over,
+    λ k e lt. over_told entries ms s w d h.0 (λ x c. within x (Contains-append_left w (all_of drawns) x c)) (slice_index_or (words_told one.shown.shows) k e) (one.over k e lt) in (
+      shows_both entries ms s b.lines.items w b.drawer.drawn looks (shows_more entries entries ms ms s w d.looks looks [] (sym (append-nil entries)) (λ i move e here has. inr has) f h.0) one.shown over,
       pairs_append (λ a b. a < b) w b.drawer.drawn h.1 one.rise below,
-      shown_all entries d looks f sends drawns bs h.2 (λ x c. within x (Contains-append_right w (all_of drawns) x c)) (All-tail (ShownOf entries d looks) b bs each) (omega (arith, same)),
+      shown_all entries ms d looks f sends drawns bs h.2 (λ x c. within x (Contains-append_right w (all_of drawns) x c)) (All-tail (ShownOf entries ms d looks) b bs each) (omega (arith, same)),
     )
 
-shown_later : (es new : List Entry) (looks more : List Look) (came : List Entry) → new ≡ es ++ came → ((x : Look) → Contains looks x → Contains more x)
-    → (sends : List (List Sent)) (drawns : List (List ℕ)) → AreShownBy es sends drawns looks → AreShownBy new sends drawns more
-shown_later es new looks more came is f [] [] h = tt
-shown_later es new looks more came is f [] (w ∷ drawns) h = absurd h
-shown_later es new looks more came is f (s ∷ sends) [] h = absurd h
-shown_later es new looks more came is f (s ∷ sends) (w ∷ drawns) h = (shows_more es new s w looks more came is f h.0, h.1, shown_later es new looks more came is f sends drawns h.2)
+shown_later : (es new : List Entry) (ms ns : List ℕ) (looks more : List Look) (came : List Entry) → new ≡ es ++ came → AreKept es ms ns → ((x : Look) → Contains looks x → Contains more x)
+    → (sends : List (List Sent)) (drawns : List (List ℕ)) → AreShownBy es ms sends drawns looks → AreShownBy new ns sends drawns more
+shown_later es new ms ns looks more came is kept f [] [] h = tt
+shown_later es new ms ns looks more came is kept f [] (w ∷ drawns) h = absurd h
+shown_later es new ms ns looks more came is kept f (s ∷ sends) [] h = absurd h
+shown_later es new ms ns looks more came is kept f (s ∷ sends) (w ∷ drawns) h = (shows_more es new ms ns s w looks more came is kept f h.0, h.1, shown_later es new ms ns looks more came is kept f sends drawns h.2)
 
 flat_of : {F : Type 0} (bs : List (BearerOf F)) → all_of (map drawn_by bs) ≡ flat_map drawn_by bs
 flat_of [] = refl
@@ -246,9 +301,9 @@ module _ {F : Type 0} (k : ℕ) (events : List Event) (old b : BearerOf F) where
 
   showed_by : (s : Option Stop) → b.stop ≡ s → s ≢ Some S.Memory → Worked k events old b → Showed b
   showed_by None is m w = showed_did old.number (map handle events) [] b.pass.own (w.did is)
-  showed_by (Some S.Closed) is m w = let x = w.broke S.Closed is in showed_did old.number (map handle events) x.left x.before x.did
+  showed_by (Some S.Closed) is m w = let x = w.broke S.Closed is in showed_did old.number (map handle events) x.left x.is.before x.is.did
   showed_by (Some S.Memory) is m w = absurd (m refl)
-  showed_by (Some S.Flash) is m w = let x = w.broke S.Flash is in showed_did old.number (map handle events) x.left x.before x.did
+  showed_by (Some S.Flash) is m w = let x = w.broke S.Flash is in showed_did old.number (map handle events) x.left x.is.before x.is.did
 
 all_right : {A : Type 0} (P : A → Type 0) (xs ys : List A) → All P (xs ++ ys) → All P ys
 all_right P xs ys h k d lt = All-contains P (xs ++ ys) (slice_index_or ys k d) h (Contains-append_right xs ys (slice_index_or ys k d) (Contains-get_or ys k d lt))
@@ -275,15 +330,15 @@ ends_append x es a b =
     ap (λ l. times x (ends_told l)) (filter_map-append (shown_of es) a b)
     ∙ ap (times x) (filter_map-append (λ (y : Shown). end_told y.outcome) (filter_map (shown_of es) a) (filter_map (shown_of es) b)) ∙ times_append x (ends_of es a) (ends_of es b)
 
-ends_later : (x : ℕ) (es new : List Entry) (looks : List Look) (came : List Entry) → new ≡ es ++ came → (sends : List (List Sent)) (drawns : List (List ℕ)) → AreShownBy es sends drawns looks
+ends_later : (x : ℕ) (es new : List Entry) (ms : List ℕ) (looks : List Look) (came : List Entry) → new ≡ es ++ came → (sends : List (List Sent)) (drawns : List (List ℕ)) → AreShownBy es ms sends drawns looks
     → times x (ends_told (all_shown new sends)) ≡ times x (ends_told (all_shown es sends))
-ends_later x es new looks came is [] [] h = refl
-ends_later x es new looks came is [] (w ∷ drawns) h = absurd h
-ends_later x es new looks came is (s ∷ sends) [] h = absurd h
-ends_later x es new looks came is (s ∷ sends) (w ∷ drawns) h =
+ends_later x es new ms looks came is [] [] h = refl
+ends_later x es new ms looks came is [] (w ∷ drawns) h = absurd h
+ends_later x es new ms looks came is (s ∷ sends) [] h = absurd h
+ends_later x es new ms looks came is (s ∷ sends) (w ∷ drawns) h =
     let now : map (shown_of new) s ≡ map Some h.0.shows = subst (λ l. map (shown_of l) s ≡ map Some h.0.shows) (sym is) (found_more es came s h.0.shows h.0.found) in
     let one : ends_of new s ≡ ends_of es s = ap ends_told (filter_found (shown_of new) s h.0.shows now ∙ sym (filter_found (shown_of es) s h.0.shows h.0.found)) in
-    omega (arith, ends_cons x new s sends, ends_cons x es s sends, ap (times x) one, ends_later x es new looks came is sends drawns h.2)
+    omega (arith, ends_cons x new s sends, ends_cons x es s sends, ap (times x) one, ends_later x es new ms looks came is sends drawns h.2)
 
 -- bearers that each have looks of their own
 abbrev HasOwn : {F : Type 0} → ℕ → List Entry → BearerOf F → Type 0
@@ -320,7 +375,7 @@ pub within_drawn : (drawns : List (List ℕ)) (d : List ℕ) → ((x : ℕ) → 
 within_drawn drawns d counted x c = times_contains x d (omega (arith, counted x, contains_times x (all_of drawns) c))
 
 module _ {F : Type 0} (old new : NodeView F) (d e : DrawerView) (events : List (List Event)) (counts : List ℕ) (dones : List Done) (sends : List (List Sent))
-    (h : PairsSo old.machine.entries sends d) (w : WasPhase old new d e events counts dones) (memory : HadMemory dones) (none : old.stops ≡ 0) (many : length sends ≡ length counts) where
+    (h : PairsSo old.machine.entries old.machine.moves sends d) (w : WasPhase old new d e events counts dones) (memory : HadMemory dones) (none : old.stops ≡ 0) (many : length sends ≡ length counts) where
   abbrev came : CameTo old new
   came = came_to old new none w.front
 
@@ -334,10 +389,10 @@ module _ {F : Type 0} (old new : NodeView F) (d e : DrawerView) (events : List (
   had_memory k b lt is =
       memory k (done_of b) (omega (arith, lt, dones_long)) (ap (λ xs. (slice_index_or xs k (done_of b)).stop) w.left ∙ ap (λ x. x.stop) (index_map done_of w.bearers k b (done_of b) lt) ∙ is)
 
-  marks : node_marks new ≡ map M.Handled new.machine.entries ++ stop_marks new.stops (event_in new.machine.hand)
+  marks : node_marks new ≡ handled_marks new.machine.entries new.machine.moves ++ stop_marks new.stops (event_in new.machine.hand)
   marks = refl
 
-  each : All (ShownOf new.machine.entries d e.looks) w.bearers
+  each : All (ShownOf new.machine.entries new.machine.moves d e.looks) w.bearers
   each k b lt =
       let mine = slice_index_or w.bearers k b in
       let within : k < length w.before = omega (arith, lt, w.long) in
@@ -349,12 +404,13 @@ module _ {F : Type 0} (old new : NodeView F) (d e : DrawerView) (events : List (
       record {
         shown = record {
           shows = shown.shows;
-          found = found_entries new.machine.entries new.stops (event_in new.machine.hand) mine.lines.items shown.shows shown.found;
+          found = found_entries new.machine.entries new.machine.moves new.stops (event_in new.machine.hand) mine.lines.items shown.shows shown.found;
           short = shown.short;
           drawing = shown.drawing;
           seq = shown.seq;
           spent = λ j s lt'. spent_in mine.drawer.looks e.looks _ (λ x c. subst (λ l. Contains l x) (sym w.looks) (Contains-append_right d.looks (flat_map looks_by w.bearers) x (contains_flat looks_by w.bearers k b x lt c))) (shown.spent j s lt');
           onward = shown.onward;
+          from = λ j s lt'. from_marks new.machine.entries new.machine.moves new.stops (event_in new.machine.hand) _ (shown.from j s lt');
         };
         rise = showed.rise;
         above = λ j x lt'. all_right (λ y. y < slice_index_or mine.drawer.drawn j x) d.noted d.drawn (subst (All (λ y. y < slice_index_or mine.drawer.drawn j x)) noted (showed.above j x lt'));
@@ -372,7 +428,7 @@ module _ {F : Type 0} (old new : NodeView F) (d e : DrawerView) (events : List (
       let mine = slice_index_or w.bearers k b in
       let showed = showed_by k (list_at events k) (slice_index_or w.before k b) mine mine.stop refl (had_memory k b lt) (w.worked k b (omega (arith, lt, w.long))) in
       let shown = shown_prefix mine.pass.seen (node_marks new) mine.lines.items mine.drawer (w.seen k b lt) showed.shown in
-      let are = filter_found (shown_of new.machine.entries) mine.lines.items shown.shows (found_entries new.machine.entries new.stops (event_in new.machine.hand) mine.lines.items shown.shows shown.found) in
+      let are = filter_found (shown_of new.machine.entries) mine.lines.items shown.shows (found_entries new.machine.entries new.machine.moves new.stops (event_in new.machine.hand) mine.lines.items shown.shows shown.found) in
       subst (λ l. times x (ends_told l) ≤ times x (words_seen mine.drawer.looks)) (sym are) (shown.own x)
 
   own_more : HasOwnLooks (ends_told (all_shown new.machine.entries (both_of sends (map lines_of dones)))) e.looks
@@ -383,18 +439,18 @@ module _ {F : Type 0} (old new : NodeView F) (d e : DrawerView) (events : List (
       omega (
         arith,
         both,
-        ends_later x old.machine.entries new.machine.entries d.looks came.more came.is sends h.drawns h.shown,
+        ends_later x old.machine.entries new.machine.entries old.machine.moves d.looks came.more came.is sends h.drawns h.shown,
         h.own x,
         ap (λ l. times x (words_seen l)) w.looks,
         words_more x d.looks (flat_map looks_by w.bearers),
       )
 
-  pub pairs_more : PairsSo new.machine.entries (both_of sends (map lines_of dones)) e
+  pub pairs_more : PairsSo new.machine.entries new.machine.moves (both_of sends (map lines_of dones)) e
   pairs_more = record {
     drawns = both_of h.drawns (map drawn_by w.bearers);
-    shown = subst (λ ds. AreShownBy new.machine.entries (both_of sends (map lines_of ds)) (both_of h.drawns (map drawn_by w.bearers)) e.looks) (sym w.left)
-        (shown_all new.machine.entries d e.looks (λ x c. subst (λ l. Contains l x) (sym w.looks) (Contains-append_left d.looks (flat_map looks_by w.bearers) x c)) sends h.drawns w.bearers
-        (shown_later old.machine.entries new.machine.entries d.looks d.looks came.more came.is (λ x c. c) sends h.drawns h.shown)
+    shown = subst (λ ds. AreShownBy new.machine.entries new.machine.moves (both_of sends (map lines_of ds)) (both_of h.drawns (map drawn_by w.bearers)) e.looks) (sym w.left)
+        (shown_all new.machine.entries new.machine.moves d e.looks (λ x c. subst (λ l. Contains l x) (sym w.looks) (Contains-append_left d.looks (flat_map looks_by w.bearers) x c)) sends h.drawns w.bearers
+        (shown_later old.machine.entries new.machine.entries old.machine.moves new.machine.moves d.looks d.looks came.more came.is came.kept (λ x c. c) sends h.drawns h.shown)
         (within_drawn h.drawns d.drawn h.counted) each same_count);
     counted = λ x. omega (arith, counted_both x h.drawns w.bearers, h.counted x, ap (times x) w.drawn, times_append x d.drawn (flat_map drawn_by w.bearers));
     own = own_more;
@@ -406,12 +462,12 @@ pub record Sum (entries : List Entry) (sends : List (List Sent)) (drawns : List 
   pub seq : All (λ p. p.seq < 2 ^ 24) (draws (flat_map (filter_map (shown_of entries)) sends))
   pub spent : All (λ s. IsSpentSeen looks s.outcome) (flat_map (filter_map (shown_of entries)) sends)
 
-pub sum_up : (entries : List Entry) (sends : List (List Sent)) (drawns : List (List ℕ)) (looks : List Look) → AreShownBy entries sends drawns looks → Sum entries sends drawns looks
-sum_up entries [] [] looks h = record { drawing = refl; seq = All-nil (λ p. p.seq < 2 ^ 24); spent = All-nil (λ (s : Shown). IsSpentSeen looks s.outcome) }
-sum_up entries [] (w ∷ drawns) looks h = absurd h
-sum_up entries (s ∷ sends) [] looks h = absurd h
-sum_up entries (s ∷ sends) (w ∷ drawns) looks h =
-    let rest = sum_up entries sends drawns looks h.2 in
+pub sum_up : (entries : List Entry) (ms : List ℕ) (sends : List (List Sent)) (drawns : List (List ℕ)) (looks : List Look) → AreShownBy entries ms sends drawns looks → Sum entries sends drawns looks
+sum_up entries ms [] [] looks h = record { drawing = refl; seq = All-nil (λ p. p.seq < 2 ^ 24); spent = All-nil (λ (s : Shown). IsSpentSeen looks s.outcome) }
+sum_up entries ms [] (w ∷ drawns) looks h = absurd h
+sum_up entries ms (s ∷ sends) [] looks h = absurd h
+sum_up entries ms (s ∷ sends) (w ∷ drawns) looks h =
+    let rest = sum_up entries ms sends drawns looks h.2 in
     let others = flat_map (filter_map (shown_of entries)) sends in
     let mine = filter_found (shown_of entries) s h.0.shows h.0.found in
     let all : filter_map (shown_of entries) s ++ others ≡ h.0.shows ++ others = ap (λ l. l ++ others) mine in
@@ -433,29 +489,35 @@ pairs_words R ps ws is h i j p lt within =
     (subst (λ y. R (slice_index_or (map word_of ps) i (word_of p)) y) (index_map word_of ps j p (word_of p) within)
     (subst (AllPairs R) (sym is) h i j (word_of p) lt (omega (arith, within, long))))
 
-pub rise_at : (entries : List Entry) (sends : List (List Sent)) (drawns : List (List ℕ)) (looks : List Look) → AreShownBy entries sends drawns looks
+pub rise_at : (entries : List Entry) (ms : List ℕ) (sends : List (List Sent)) (drawns : List (List ℕ)) (looks : List Look) → AreShownBy entries ms sends drawns looks
     → (k : ℕ) → AllPairs (λ p q. word_of p < word_of q) (draws (filter_map (shown_of entries) (list_at sends k)))
-rise_at entries [] [] looks h k = λ i j p lt within. absurd (omega (arith, within))
-rise_at entries [] (w ∷ drawns) looks h k = absurd h
-rise_at entries (s ∷ sends) [] looks h k = absurd h
-rise_at entries (s ∷ sends) (w ∷ drawns) looks h zero =
+rise_at entries ms [] [] looks h k = λ i j p lt within. absurd (omega (arith, within))
+rise_at entries ms [] (w ∷ drawns) looks h k = absurd h
+rise_at entries ms (s ∷ sends) [] looks h k = absurd h
+rise_at entries ms (s ∷ sends) (w ∷ drawns) looks h zero =
     pairs_words (λ a b. a < b) (draws (filter_map (shown_of entries) s)) w (ap (λ l. map word_of (draws l)) (filter_found (shown_of entries) s h.0.shows h.0.found) ∙ h.0.drawing) h.1
-rise_at entries (s ∷ sends) (w ∷ drawns) looks h (suc k) = rise_at entries sends drawns looks h.2 k
+rise_at entries ms (s ∷ sends) (w ∷ drawns) looks h (suc k) = rise_at entries ms sends drawns looks h.2 k
 
-pub onward_at : (entries : List Entry) (sends : List (List Sent)) (drawns : List (List ℕ)) (looks : List Look) → AreShownBy entries sends drawns looks
+pub onward_at : (entries : List Entry) (ms : List ℕ) (sends : List (List Sent)) (drawns : List (List ℕ)) (looks : List Look) → AreShownBy entries ms sends drawns looks
     → (k : ℕ) → AllPairs (λ x y. x ≤ y) (words_told (filter_map (shown_of entries) (list_at sends k)))
-onward_at entries [] [] looks h k = λ i j x lt within. absurd (omega (arith, within))
-onward_at entries [] (w ∷ drawns) looks h k = absurd h
-onward_at entries (s ∷ sends) [] looks h k = absurd h
-onward_at entries (s ∷ sends) (w ∷ drawns) looks h zero = subst (λ l. AllPairs (λ x y. x ≤ y) (words_told l)) (sym (filter_found (shown_of entries) s h.0.shows h.0.found)) h.0.onward
-onward_at entries (s ∷ sends) (w ∷ drawns) looks h (suc k) = onward_at entries sends drawns looks h.2 k
+onward_at entries ms [] [] looks h k = λ i j x lt within. absurd (omega (arith, within))
+onward_at entries ms [] (w ∷ drawns) looks h k = absurd h
+onward_at entries ms (s ∷ sends) [] looks h k = absurd h
+onward_at entries ms (s ∷ sends) (w ∷ drawns) looks h zero = subst (λ l. AllPairs (λ x y. x ≤ y) (words_told l)) (sym (filter_found (shown_of entries) s h.0.shows h.0.found)) h.0.onward
+onward_at entries ms (s ∷ sends) (w ∷ drawns) looks h (suc k) = onward_at entries ms sends drawns looks h.2 k
 
-pub no_pairs : (n : ℕ) (looks : List Look) → AreShownBy [] (replicate n []) (replicate n []) looks
-no_pairs zero looks = tt
-no_pairs (suc n) looks = (
-  record { shows = []; found = refl; short = All-nil (λ (s : Sent). s.job + 1 < 2 ^ 8); drawing = refl; seq = All-nil (λ p. p.seq < 2 ^ 24); spent = All-nil (λ (s : Shown). IsSpentSeen looks s.outcome); onward = λ i j x lt within. absurd (omega (arith, within)) },
+pub from_all : (entries : List Entry) (ms : List ℕ) (sends : List (List Sent)) (drawns : List (List ℕ)) (looks : List Look) → AreShownBy entries ms sends drawns looks → All (All (IsFromMove entries ms)) sends
+from_all entries ms [] [] looks h = All-nil (All (IsFromMove entries ms))
+from_all entries ms [] (w ∷ drawns) looks h = absurd h
+from_all entries ms (s ∷ sends) [] looks h = absurd h
+from_all entries ms (s ∷ sends) (w ∷ drawns) looks h = All-cons (All (IsFromMove entries ms)) s sends h.0.from (from_all entries ms sends drawns looks h.2)
+
+pub no_pairs : (n : ℕ) (ms : List ℕ) (looks : List Look) → AreShownBy [] ms (replicate n []) (replicate n []) looks
+no_pairs zero ms looks = tt
+no_pairs (suc n) ms looks = (
+  record { shows = []; found = refl; short = All-nil (λ (s : Sent). s.job + 1 < 2 ^ 8); drawing = refl; seq = All-nil (λ p. p.seq < 2 ^ 24); spent = All-nil (λ (s : Shown). IsSpentSeen looks s.outcome); onward = λ i j x lt within. absurd (omega (arith, within)); from = All-nil (IsFromMove [] ms) },
   (λ i j d lt within. absurd (omega (arith, within))),
-  no_pairs n looks,
+  no_pairs n ms looks,
 )
 
 pub no_ends : (n : ℕ) (looks : List Look) → HasOwnLooks (ends_told (all_shown [] (replicate n []))) looks

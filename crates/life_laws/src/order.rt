@@ -28,7 +28,7 @@ pub fn one_phase_more<F>()
         → AreThrough dones
         → AreDone (phases ++ events ∷ []) new.machine.entries (both_of sends (map lines_of dones))
         (map (λ x. x.number) dones) }
-    // else the life is broken off in it, whatever phases it has behind it
+    // else the life is broken off in it, each bearer where it needs the machine, whatever phases it has behind it
     ensures broken { (phases rest : List (List (List Event))) (old new : NodeView F) (d e : DrawerView)
         (events : List (List Event)) (counts : List ℕ) (dones : List Done) (sends : List (List Sent))
         → AreDone phases old.machine.entries sends counts → WasPhase old new d e events counts dones → HadMemory dones

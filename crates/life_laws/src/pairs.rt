@@ -4,6 +4,7 @@
 ghost use Rattle.std.specs.Prelude.{◌≡◌, ℕ, ◌<◌, ◌≤◌, List, [], All, length, map, replicate};
 ghost use Rattle.std.specs.List.{Contains};
 ghost use Rattle.mesh_types.specs.declared.events.Event.{Event};
+ghost use Rattle.mesh_types.specs.declared.history.Entry.{Entry};
 ghost use Rattle.mesh_types.specs.declared.history.Sent.{Sent};
 ghost use Rattle.record_types.specs.declared.records.StoreRecord.{StoreRecord};
 ghost use Rattle.report_definitions.specs.Record.{Life, shown};
@@ -16,28 +17,37 @@ ghost use Rattle.locked_node.specs.Node.{NodeView};
 ghost use Rattle.node_phase.specs.declared.bearers.Done.{Done};
 ghost use Rattle.node_phase.specs.Part.{HadMemory, lines_of};
 ghost use Rattle.node_phase.specs.Worked.{WasPhase};
-ghost use Rattle.life_laws.specs.Pairs.{PairsSo};
+ghost use Rattle.life_laws.specs.Pairs.{IsFromMove, PairsSo};
 ghost use Rattle.life_laws.specs.Phases.{both_of};
 
 /// The lines of a life draw the words that were drawn at its seats: before any phase, and with one phase more.
 pub fn pairs_law<F>()
-    ensures none { (bearers : ℕ) (d : DrawerView) → d.drawn ≡ [] → PairsSo [] (replicate bearers []) d }
+    ensures none { (bearers : ℕ) (moves : List ℕ) (d : DrawerView) → d.drawn ≡ []
+        → PairsSo [] moves (replicate bearers []) d }
     ensures more { (old new : NodeView F) (d e : DrawerView) (events : List (List Event)) (counts : List ℕ)
         (dones : List Done) (sends : List (List Sent))
-        → PairsSo old.machine.entries sends d → WasPhase old new d e events counts dones → HadMemory dones
+        → PairsSo old.machine.entries old.machine.moves sends d → WasPhase old new d e events counts dones → HadMemory dones
         → old.stops ≡ 0 → length sends ≡ length counts
-        → PairsSo new.machine.entries (both_of sends (map lines_of dones)) e }
+        → PairsSo new.machine.entries new.machine.moves (both_of sends (map lines_of dones)) e }
 {}
 
 /// So they are the pairs of a life that opened over the one list of records and leaves the other, where each drawn word lies between the
 /// marks of these, and was drawn once; and where no look found more in the counter than the mark that is left, or the end of an IV Index there
 /// whose last number wasn't drawn, unless the life opened there.
 pub fn drawn_law()
-    ensures drawn { (over next : List StoreRecord) (l : Life) (d : DrawerView) → PairsSo l.entries l.sends d
+    ensures drawn { (over next : List StoreRecord) (l : Life) (moves : List ℕ) (d : DrawerView)
+        → PairsSo l.entries moves l.sends d
         → All (λ x. (config_of over).mark ≤ x) d.drawn → All (λ x. x < (config_of next).mark) d.drawn
         → ((x : ℕ) → times x d.drawn ≤ 1) → IsDrawn over next l }
-    ensures spent { (over next : List StoreRecord) (l : Life) (d : DrawerView) → PairsSo l.entries l.sends d
+    ensures spent { (over next : List StoreRecord) (l : Life) (moves : List ℕ) (d : DrawerView)
+        → PairsSo l.entries moves l.sends d
         → ((word : ℕ) → Contains d.looks (saw.Counter word) → word ≤ (config_of next).mark)
         → All (IsEndOf (config_of over).mark d.drawn) d.looks
         → All (λ s. IsSpentRight over next l s.outcome) (shown l) }
+{}
+
+/// None of these lines tells a word below where the counter had been moved to behind its entry.
+pub fn from_law()
+    ensures from { (entries : List Entry) (moves : List ℕ) (sends : List (List Sent)) (d : DrawerView)
+        → PairsSo entries moves sends d → All (All (IsFromMove entries moves)) sends }
 {}

@@ -32,7 +32,7 @@ use Rattle.event_definitions.specs.Handling.{AreHandled, Handles, past_of}
 use Rattle.event_definitions.specs.History.{Insight, OfNothing, OfPdu, Past, Told}
 use Rattle.event_definitions.specs.Jobs.{jobs_of}
 use Rattle.run_definitions.specs.Lines.{after_line, shows_first, shows_relay, shows_sent_long}
-use Rattle.run_definitions.specs.Order.{Does, IsOrdered, Part, Placed, Task, Walks, broken, follow, follows, handle, handles, of_bearer, placed_from, stops, write, writes}
+use Rattle.run_definitions.specs.Order.{BreaksOff, IsOrdered, Part, Placed, Task, Walks, broken, follow, follows, handle, handles, of_bearer, placed_from, stops, write, writes}
 use Rattle.mesh_base.specs.Pairs.{word_of}
 use Rattle.store_definitions.specs.Ranges.{IsInRange, IsKey}
 use Rattle.event_definitions.specs.Readings.{IsOpened, IsReading, Sees, sees_pdu, sees_nothing}
@@ -266,9 +266,10 @@ pub others_placed : (k n : ℕ) (es : List Entry) → AllByRecursion (λ (e : En
 others_placed k n [] h = refl
 others_placed k n (e ∷ es) h = rw (h.0, zero_suc k) (others_placed k (n + 1) es h.1)
 
-does : (k : ℕ) → (rest : List Task) × Does (events ∷ []) part k rest
-does zero = (rest_tasks, first_walk)
-does (suc k) = ([], rw (others_placed k 0 entries zero_bearers) stops)
+-- the segment that is left draws a pair
+does : (k : ℕ) → BreaksOff (events ∷ []) part k
+does zero = record { left = rest_tasks; does = first_walk; stuck = refl }
+does (suc k) = record { left = []; does = rw (others_placed k 0 entries zero_bearers) stops; stuck = tt }
 
 ordered : IsOrdered plan life
 ordered = record { parts = part ∷ []; entries = refl; sends = λ k. sym (append-nil (list_at (lines ∷ []) k)); phases = broken does }

@@ -1,5 +1,5 @@
 -- What a bearer did, with one step more.
-use Rattle.std.proofs.Common.{◌≡◌, ◌∙◌, ℕ, suc, ◌+◌, ◌^◌, ◌<◌, false, true≢false, true, List, [], ◌∷◌, ◌++◌, length, map, Option, Some, None, refl, sym, ap, arith, subst, length-append, append-nil, append_assoc}
+use Rattle.std.proofs.Common.{◌≡◌, ◌∙◌, ℕ, suc, ◌+◌, ◌^◌, ◌<◌, false, true≢false, true, List, [], ◌∷◌, ◌++◌, length, map, Option, Some, None, inl, inr, refl, sym, ap, arith, subst, length-append, append-nil, append_assoc}
 use Rattle.std.specs.Prelude.{◌*◌, ◌≤◌, All, AllPairs, IfSome, slice_get, slice_index_or}
 use Rattle.std.specs.List.{Contains, range_with_len}
 use Rattle.std.specs.Option.{option_map, option_to_list}
@@ -27,9 +27,9 @@ use Rattle.seq_word.specs.declared.miss.Miss.TheVariants as missed
 use Rattle.turn_lock.specs.Entries.{IsPrefix, added}
 use Rattle.locked_node.specs.declared.marks.Mark.{Mark}
 use Rattle.locked_node.specs.declared.marks.Mark.TheVariants as M
-use Rattle.node_bearer.specs.Did.{Did, DrewPair, IsFor, SawEnd}
-use Rattle.node_bearer.specs.Marked.{AreShown, HasJob, IsBehind, IsSpentSeen, end_told, ends_told, shown_in, word_seen, words_seen}
-use Rattle.node_bearer.proofs.Lists.{added_one, found_longer, no_lower, pairs_more, range_more, times_append}
+use Rattle.node_bearer.specs.Did.{AreMarksAt, Did, DrewPair, IsFor, SawEnd}
+use Rattle.node_bearer.specs.Marked.{AreShown, HasJob, IsBehind, IsFrom, IsSpentSeen, end_told, ends_told, move_of, shown_in, word_seen, words_seen}
+use Rattle.node_bearer.proofs.Lists.{added_one, found_longer, from_more, marks_at_more, no_lower, pairs_more, range_more, times_append}
 use Rattle.node_bearer.proofs.Walking.{acts, walk_more}
 
 -- more is seen of the marks
@@ -44,6 +44,7 @@ shown_more marks rest lines d h = record {
   own = h.own;
   onward = h.onward;
   behind = h.behind;
+  from = from_more marks rest lines h.shows h.found h.from;
 }
 
 pub shown_prefix : (marks more : List Mark) (lines : List Sent) (d : DrawerView) → IsPrefix marks more → AreShown marks lines d → AreShown more lines d
@@ -80,13 +81,30 @@ shown_still marks lines d e drawn noted known front h = record {
   own = λ x. omega (arith, h.own x, ap (λ l. times x (words_seen l)) front.is, words_more x d.looks front.rest);
   onward = h.onward;
   behind = All-weaker (IsBehind d) (IsBehind e) (behind_still d e noted known) (words_told h.shows) h.behind;
+  from = h.from;
 }
 
 -- a line more: what it shows of its job, and the pair that it draws
-found_here : (marks : List Mark) (at j : ℕ) (event : Event) (job : Job) (o : Outcome) (h : HasJob marks at j event job)
+found_here : (marks : List Mark) (at j : ℕ) (event : Event) (job : Job) (o : Outcome) (informed : List ℕ) (h : HasJob marks at j event job informed)
     → shown_in marks (record { entry = at; job = j; outcome = o }) ≡ Some (record { entry = h.entry.entry; job = job; outcome = o })
-found_here marks at j event job o h =
+found_here marks at j event job o informed h =
     rw h.entry.here (rw (subst (λ js. slice_get js j ≡ Some job) (sym h.entry.jobs_are) h.place) refl)
+
+-- The word that it tells is not below where the counter had been moved to behind its entry: the seat that drew or looked had been told of that.
+from_here : (marks : List Mark) (at j : ℕ) (event : Event) (job : Job) (o : Outcome) (d : DrawerView) (w : Option ℕ) → HasJob marks at j event job d.informed → word_told job o ≡ w → IfSome w (seen.IsAbove d)
+    → IsFrom marks (record { entry = at; job = j; outcome = o })
+from_here marks at j event job o d w there tells above = λ line mark word shows here told.
+    let e = there.entry.entry in
+    let both : Some line ≡ Some (record { entry = e; job = job; outcome = o }) = sym shows ∙ found_here marks at j event job o d.informed there in
+    let is : line ≡ record { entry = e; job = job; outcome = o } = cc in
+    let marked : Some mark ≡ Some (M.Handled e there.entry.move) = sym here ∙ there.entry.here in
+    let same : mark ≡ M.Handled e there.entry.move = cc in
+    let over = subst (λ x. IfSome x (seen.IsAbove d)) (sym tells ∙ sym (ap (λ (x : Shown). word_told x.job x.outcome) is) ∙ told) above in
+    let behind : there.entry.move ≤ word = elim (there.entry.knows) [
+      | inl none ↦ omega (arith, none)
+      | inr known ↦ All-contains (λ x. x ≤ word) d.informed there.entry.move over.informed known
+    ] in
+    subst (λ x. move_of x ≤ word) (sym same) behind
 
 draws_one : (e : Entry) (job : Job) (o : Outcome) (p : Option Pair) → drawn_of job o ≡ p → draws (record { entry = e; job = job; outcome = o } ∷ []) ≡ option_to_list p
 draws_one e job o None h = rw h refl
@@ -155,7 +173,7 @@ told_up marks lines d w h above =
 -- With the seat of before, and as it is behind the draw of the line: what the line draws, and the word that it tells.
 pub line_more : (marks : List Mark) (lines : List Sent) (d e : DrawerView) (at j : ℕ) (event : Event) (job : Job) (o : Outcome) (p : Option Pair) (w : Option ℕ)
     → AreShown marks lines d → e.drawn ≡ d.drawn ++ map word_of (option_to_list p) → e.noted ≡ d.noted → e.known ≡ d.known → seen.IsPrefix d.looks e.looks
-    → HasJob marks at j event job → drawn_of job o ≡ p → All (λ q. q.seq < 2 ^ 24) (option_to_list p) → IsSpentSeen e.looks o
+    → HasJob marks at j event job d.informed → drawn_of job o ≡ p → All (λ q. q.seq < 2 ^ 24) (option_to_list p) → IsSpentSeen e.looks o
     → ((x : ℕ) → times x (option_to_list (end_told o)) + times x (words_seen d.looks) ≤ times x (words_seen e.looks))
     → word_told job o ≡ w → IfSome w (seen.IsAbove d)
     → AreShown marks (lines ++ record { entry = at; job = j; outcome = o } ∷ []) e
@@ -173,7 +191,7 @@ line_more marks lines d e at j event job o p w h drawn noted known front there d
       shows = h.shows ++ show ∷ [];
       found =
           map-append (shown_in marks) lines (line ∷ []) ∙ ap (λ l. l ++ map (shown_in marks) (line ∷ [])) h.found
-          ∙ ap (λ x. map Some h.shows ++ x ∷ []) (found_here marks at j event job o there) ∙ sym (map-append Some h.shows (show ∷ []));
+          ∙ ap (λ x. map Some h.shows ++ x ∷ []) (found_here marks at j event job o d.informed there) ∙ sym (map-append Some h.shows (show ∷ []));
       short = All-push (λ (s : Sent). s.job + 1 < 2 ^ 8) lines line h.short there.short;
       drawing = ap (map word_of) draws_are ∙ map-append word_of (draws h.shows) (option_to_list p) ∙ ap (λ l. l ++ map word_of (option_to_list p)) h.drawing ∙ sym drawn;
       seq = subst (All (λ q. q.seq < 2 ^ 24)) (sym draws_are) (All-append (λ q. q.seq < 2 ^ 24) (draws h.shows) (option_to_list p) h.seq seq);
@@ -181,6 +199,7 @@ line_more marks lines d e at j event job o p w h drawn noted known front there d
       own = λ x. omega (arith, ap (times x) ends_are, times_append x (ends_told h.shows) (option_to_list (end_told o)), h.own x, own x);
       onward = subst (AllPairs (λ x y. x ≤ y)) (sym told_are) (onward_one w above);
       behind = subst (All (IsBehind e)) (sym told_are) (behind_one w still above);
+      from = All-push (IsFrom marks) lines line h.from (from_here marks at j event job o d w there tells above);
     }
   where
     onward_one : (o : Option ℕ) → IfSome o (seen.IsAbove d) → AllPairs (λ x y. x ≤ y) (words_told h.shows ++ option_to_list o)
@@ -203,10 +222,10 @@ same_looks looks = record { rest = []; is = sym (append-nil looks) }
 
 module _ (k first : ℕ) (tasks : List Task) where
   -- an event was handled
-  pub did_acted : (task : Task) (rest : List Task) (own : List (ℕ × Mark)) (marks ms : List Mark) (lines : List Sent) (number : ℕ) (d : DrawerView) (event : Event) (e : Entry)
+  pub did_acted : (task : Task) (rest : List Task) (own : List (ℕ × Mark)) (marks ms : List Mark) (lines : List Sent) (number : ℕ) (d : DrawerView) (event : Event) (e : Entry) (move : ℕ)
       → IsFor event task → Did k first tasks (task ∷ rest) own marks lines number d → IsPrefix marks ms → e.event ≡ event → e.bearer ≡ k → e.number ≡ number + 1
-      → Did k first tasks (write_tasks (length ms) 0 event e.jobs ++ rest) (own ++ added ms (ms ++ M.Handled e ∷ [])) (ms ++ M.Handled e ∷ []) lines (number + 1) d
-  did_acted task rest own marks ms lines number d event e is h front same by numbered =
+      → Did k first tasks (write_tasks (length ms) 0 event e.jobs ++ rest) (own ++ added ms (ms ++ M.Handled e move ∷ [])) (ms ++ M.Handled e move ∷ []) lines (number + 1) d
+  did_acted task rest own marks ms lines number d event e move is h front same by numbered =
       let p : Placed = record { at = length ms; entry = e } in
       let n = length h.entries in
       let long : length (h.entries ++ p ∷ []) ≡ suc n = omega (arith, length-append h.entries (p ∷ [])) in
@@ -216,15 +235,13 @@ module _ (k first : ℕ) (tasks : List Task) where
       ∙ ap (λ x. range_with_len (first + 1) n ++ x ∷ []) numbered' ∙ sym (range_more (first + 1) n) in
       record {
         entries = h.entries ++ p ∷ [];
-        own_are =
-            ap (λ l. own ++ l) (added_one ms (M.Handled e)) ∙ ap (λ l. l ++ (length ms, M.Handled e) ∷ []) h.own_are
-            ∙ sym (map-append (λ (q : Placed). (q.at, M.Handled q.entry)) h.entries (p ∷ []));
+        own_are = subst (λ l. AreMarksAt (own ++ l) (h.entries ++ p ∷ [])) (sym (added_one ms (M.Handled e move))) (marks_at_more own h.entries (length ms) e move h.own_are);
         walks = subst (λ ev. Walks tasks (h.entries ++ p ∷ []) lines (write_tasks (length ms) 0 ev e.jobs ++ rest)) same
             (subst (λ ls. Walks tasks (h.entries ++ p ∷ []) ls (job_tasks p ++ rest)) (append-nil lines) (walk_more h.walks (acts event task rest p is same)));
         bearer = All-push (λ q. q.entry.bearer ≡ k) h.entries p h.bearer by;
         numbers = mine ∙ ap (range_with_len (first + 1)) (sym long);
         count = omega (arith, h.count, long);
-        shown = shown_prefix marks (ms ++ M.Handled e ∷ []) lines d (record { rest = front.rest ++ M.Handled e ∷ []; is = ap (λ l. l ++ M.Handled e ∷ []) front.is ∙ append_assoc marks front.rest (M.Handled e ∷ []) }) h.shown;
+        shown = shown_prefix marks (ms ++ M.Handled e move ∷ []) lines d (record { rest = front.rest ++ M.Handled e move ∷ []; is = ap (λ l. l ++ M.Handled e move ∷ []) front.is ∙ append_assoc marks front.rest (M.Handled e move ∷ []) }) h.shown;
         rise = h.rise;
         above = h.above;
       }
@@ -262,7 +279,7 @@ module _ (k first : ℕ) (tasks : List Task) where
 
   -- a line that draws no pair
   pub did_written : (rest : List Task) (own : List (ℕ × Mark)) (marks : List Mark) (lines : List Sent) (number : ℕ) (d : DrawerView) (at j : ℕ) (event : Event) (job : Job) (o : Outcome) (after : List Event)
-      → HasJob marks at j event job → Shows event job o → drawn_of job o ≡ None → IsSpentSeen d.looks o → end_told o ≡ None → after_line job o ≡ after
+      → HasJob marks at j event job d.informed → Shows event job o → drawn_of job o ≡ None → IsSpentSeen d.looks o → end_told o ≡ None → after_line job o ≡ after
       → Did k first tasks (write at j event job ∷ rest) own marks lines number d
       → Did k first tasks (map follow after ++ rest) own marks (lines ++ record { entry = at; job = j; outcome = o } ∷ []) number d
   did_written rest own marks lines number d at j event job o after there shows drawn spent none next h = record {
@@ -281,7 +298,7 @@ module _ (k first : ℕ) (tasks : List Task) where
 
   -- a line with the pair that was drawn for it
   pub did_drawn : (rest : List Task) (own : List (ℕ × Mark)) (marks : List Mark) (lines : List Sent) (number : ℕ) (d e : DrawerView) (p : Pair) (at j : ℕ) (event : Event) (job : Job) (o : Outcome) (after : List Event)
-      → HasJob marks at j event job → Shows event job o → drawn_of job o ≡ Some p → IsSpentSeen d.looks o → end_told o ≡ None → after_line job o ≡ after → DrewPair p d e
+      → HasJob marks at j event job e.informed → Shows event job o → drawn_of job o ≡ Some p → IsSpentSeen d.looks o → end_told o ≡ None → after_line job o ≡ after → DrewPair p d e
       → Did k first tasks (write at j event job ∷ rest) own marks lines number d
       → Did k first tasks (map follow after ++ rest) own marks (lines ++ record { entry = at; job = j; outcome = o } ∷ []) number e
   did_drawn rest own marks lines number d e p at j event job o after there shows drawn spent none next new h =
@@ -294,7 +311,7 @@ module _ (k first : ℕ) (tasks : List Task) where
         bearer = h.bearer;
         numbers = h.numbers;
         count = h.count;
-        shown = line_more marks lines d e at j event job o (Some p) (Some (word_of p)) h.shown new.drawn new.noted new.known new.looks there drawn
+        shown = line_more marks lines d e at j event job o (Some p) (Some (word_of p)) h.shown new.drawn new.noted new.known new.looks (subst (HasJob marks at j event job) new.informed there) drawn
             (All-cons (λ q. q.seq < 2 ^ 24) p [] new.seq (All-nil (λ q. q.seq < 2 ^ 24))) (spent_front d.looks e.looks o new.looks spent) (no_end_more d.looks e.looks o none new.looks)
             (word_of_line job o (Some p) drawn none) new.above;
         rise = subst (AllPairs (λ x y. x < y)) (sym new.drawn) (pairs_more d.drawn (word_of p) h.rise new.above.drawn);
@@ -304,7 +321,7 @@ module _ (k first : ℕ) (tasks : List Task) where
 
   -- a line that says that no number was left, with the look that found that
   pub did_spent : (rest : List Task) (own : List (ℕ × Mark)) (marks : List Mark) (lines : List Sent) (number : ℕ) (d e : DrawerView) (at j : ℕ) (event : Event) (job : Job) (iv : ℕ)
-      → HasJob marks at j event job → is_drawing job ≡ true → after_line job (O.Spent iv) ≡ [] → SawEnd iv d e
+      → HasJob marks at j event job e.informed → is_drawing job ≡ true → after_line job (O.Spent iv) ≡ [] → SawEnd iv d e
       → Did k first tasks (write at j event job ∷ rest) own marks lines number d
       → Did k first tasks rest own marks (lines ++ record { entry = at; job = j; outcome = O.Spent iv } ∷ []) number e
   did_spent rest own marks lines number d e at j event job iv there draws' next new h =
@@ -317,7 +334,7 @@ module _ (k first : ℕ) (tasks : List Task) where
         bearer = h.bearer;
         numbers = h.numbers;
         count = h.count;
-        shown = line_more marks lines d e at j event job (O.Spent iv) None (Some (iv * 2 ^ 25 + 2 ^ 24)) h.shown (new.drawn ∙ sym (append-nil d.drawn)) new.noted new.known new.looks there refl
+        shown = line_more marks lines d e at j event job (O.Spent iv) None (Some (iv * 2 ^ 25 + 2 ^ 24)) h.shown (new.drawn ∙ sym (append-nil d.drawn)) new.noted new.known new.looks (subst (HasJob marks at j event job) new.informed there) refl
             (All-nil (λ q. q.seq < 2 ^ 24)) new.here new.once_more refl new.above;
         rise = subst (AllPairs (λ x y. x < y)) (sym new.drawn) h.rise;
         above = subst (λ ws. All (λ x. All (λ y. y < x) e.noted) ws) (sym new.drawn) (subst (λ ns. All (λ x. All (λ y. y < x) ns) d.drawn) (sym new.noted) h.above);
@@ -342,6 +359,7 @@ saw_end iv d e same (tries, u, lost, (mark, looks)) above =
       drawn = same.drawn;
       noted = same.noted;
       known = same.known;
+      informed = same.informed;
       above = above;
       looks = record { rest = front.rest ++ last; is = looks ∙ ap (λ l. l ++ last) front.is ∙ append_assoc d.looks front.rest last };
       here = subst (λ l. Contains l (saw.Counter (iv * 2 ^ 25 + 2 ^ 24))) (sym looks) (Contains-append_right u.looks last (saw.Counter (iv * 2 ^ 25 + 2 ^ 24)) (1, omega arith, refl));

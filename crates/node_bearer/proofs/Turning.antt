@@ -7,18 +7,20 @@ use Rattle.mesh_types.specs.declared.events.Event.{Event}
 use Rattle.mesh_types.specs.declared.history.Entry.{Entry}
 use Rattle.mesh_types.specs.declared.jobs.Job.{Job}
 use Rattle.run_definitions.specs.Lines.{is_drawing}
-use Rattle.run_definitions.specs.Order.{Task, write_tasks}
+use Rattle.run_definitions.specs.Order.{IsStuck, Task, follow, handle, write, write_tasks}
+use Rattle.seq_word.specs.Seen.{DrawerView}
 use Rattle.turn_lock.specs.Entries.{IsPrefix, added}
 use Rattle.turn_lock.specs.Views.{PassView}
 use Rattle.locked_node.specs.declared.marks.Mark.{Mark}
 use Rattle.locked_node.specs.declared.marks.Mark.TheVariants as M
 use Rattle.locked_node.specs.Asked.{WasAsked}
-use Rattle.locked_node.specs.Node.{IsStopped, IsStoppedBare, NodeView, OnStop, node_marks}
-use Rattle.node_bearer.specs.Did.{BearerOf, Broke, Did, DidBy, GoesOn, IsFor, IsNext}
+use Rattle.locked_node.proofs.Told.{told_more}
+use Rattle.locked_node.specs.Node.{HasBeenTold, IsStopped, IsStoppedBare, NodeView, OnStop, node_marks}
+use Rattle.node_bearer.specs.Did.{BearerOf, Broke, Did, DidBy, GoesOn, IsFor, IsNext, LeftOff}
 use Rattle.node_bearer.specs.Marked.{HasEntry, HasJob}
 use Rattle.node_bearer.specs.Turns.{after_turn}
 use Rattle.node_bearer.proofs.Lists.{added_more, added_none, added_one, get_last, get_longer}
-use Rattle.node_bearer.proofs.Doing.{did_acted, did_seen}
+use Rattle.node_bearer.proofs.Doing.{did_acted, did_looked, did_seen}
 
 pub on_ok : {A E P Q : Type 0} (r : Result A E) → (P → Q) → OnOk r P → OnOk r Q
 on_ok (Ok a) f h = f h
@@ -42,31 +44,53 @@ on_stop S.Closed f h = f h
 on_stop S.Memory f h = tt
 on_stop S.Flash f h = f h
 
+pub front_of_itself : {E : Type 0} (ms : List E) → IsPrefix ms ms
+front_of_itself ms = record { rest = []; is = sym (append-nil ms) }
+
+pub front_more : {E : Type 0} (xs ys zs : List E) → IsPrefix xs ys → IsPrefix ys zs → IsPrefix xs zs
+front_more xs ys zs p q = record { rest = p.rest ++ q.rest; is = q.is ∙ ap (λ l. l ++ q.rest) p.is ∙ append_assoc xs p.rest q.rest }
+
 pub goes_on : {F : Type 0} (a b c : BearerOf F) → GoesOn a b → GoesOn b c → GoesOn a c
 goes_on a b c p q = record {
   rest = p.rest ++ q.rest;
   more = q.more ∙ ap (λ l. l ++ q.rest) p.more ∙ append_assoc a.pass.seen p.rest q.rest;
   noted = q.noted ∙ p.noted;
   known = q.known ∙ p.known;
+  told = front_more a.drawer.informed b.drawer.informed c.drawer.informed p.told q.told;
   parts = q.parts ∙ p.parts;
   stop = q.stop ∙ p.stop;
 }
 
 pub on_still : {F : Type 0} (b : BearerOf F) → GoesOn b b
-on_still b = record { rest = []; more = sym (append-nil b.pass.seen); noted = refl; known = refl; parts = refl; stop = refl }
+on_still b = record { rest = []; more = sym (append-nil b.pass.seen); noted = refl; known = refl; told = front_of_itself b.drawer.informed; parts = refl; stop = refl }
 
-pub entry_longer : (marks rest : List Mark) (at : ℕ) (event : Event) (jobs : List Job) → HasEntry marks at event jobs → HasEntry (marks ++ rest) at event jobs
-entry_longer marks rest at event jobs h = record { entry = h.entry; here = get_longer marks rest at (M.Handled h.entry) h.here; event_is = h.event_is; jobs_are = h.jobs_are }
+-- its lines alone are others
+pub on_written : {F : Type 0} (b c : BearerOf F) → c ≡ record b { lines = c.lines } → GoesOn b c
+on_written b c is = subst (GoesOn b) (sym is) (record { rest = []; more = sym (append-nil b.pass.seen); noted = refl; known = refl; told = front_of_itself b.drawer.informed; parts = refl; stop = refl })
 
-pub entry_on : {F : Type 0} (a b : BearerOf F) (at : ℕ) (event : Event) (jobs : List Job) → GoesOn a b → HasEntry a.pass.seen at event jobs → HasEntry b.pass.seen at event jobs
-entry_on a b at event jobs on h = subst (λ ms. HasEntry ms at event jobs) (sym on.more) (entry_longer a.pass.seen on.rest at event jobs h)
+pub entry_longer : (marks rest : List Mark) (at : ℕ) (event : Event) (jobs : List Job) (front informed : List ℕ) → IsPrefix front informed → HasEntry marks at event jobs front
+    → HasEntry (marks ++ rest) at event jobs informed
+entry_longer marks rest at event jobs front informed more h = record {
+  entry = h.entry;
+  move = h.move;
+  here = get_longer marks rest at (M.Handled h.entry h.move) h.here;
+  knows = told_more front informed h.move more h.knows;
+  event_is = h.event_is;
+  jobs_are = h.jobs_are;
+}
 
-pub job_on : {F : Type 0} (a b : BearerOf F) (at j : ℕ) (event : Event) (job : Job) → GoesOn a b → HasJob a.pass.seen at j event job → HasJob b.pass.seen at j event job
+pub entry_on : {F : Type 0} (a b : BearerOf F) (at : ℕ) (event : Event) (jobs : List Job) → GoesOn a b → HasEntry a.pass.seen at event jobs a.drawer.informed
+    → HasEntry b.pass.seen at event jobs b.drawer.informed
+entry_on a b at event jobs on h =
+    subst (λ ms. HasEntry ms at event jobs b.drawer.informed) (sym on.more) (entry_longer a.pass.seen on.rest at event jobs a.drawer.informed b.drawer.informed on.told h)
+
+pub job_on : {F : Type 0} (a b : BearerOf F) (at j : ℕ) (event : Event) (job : Job) → GoesOn a b → HasJob a.pass.seen at j event job a.drawer.informed
+    → HasJob b.pass.seen at j event job b.drawer.informed
 job_on a b at j event job on h = record { jobs = h.jobs; entry = entry_on a b at event h.jobs on h.entry; place = h.place; short = h.short }
 
 -- a job that draws, of an entry that a bearer has seen, is among what it sees later
 asked_longer : (marks rest : List Mark) → WasAsked marks → WasAsked (marks ++ rest)
-asked_longer marks rest w = record { at = w.at; entry = w.entry; here = get_longer marks rest w.at (M.Handled w.entry) w.here; place = w.place; job = w.job; has = w.has; draws = w.draws }
+asked_longer marks rest w = record { at = w.at; entry = w.entry; move = w.move; here = get_longer marks rest w.at (M.Handled w.entry w.move) w.here; place = w.place; job = w.job; has = w.has; draws = w.draws }
 
 pub asked_front : (front marks : List Mark) → IsPrefix front marks → WasAsked front → WasAsked marks
 asked_front front marks p w = subst WasAsked (sym p.is) (asked_longer front p.rest w)
@@ -74,10 +98,11 @@ asked_front front marks p w = subst WasAsked (sym p.is) (asked_longer front p.re
 pub asked_on : {F : Type 0} (a b : BearerOf F) → GoesOn a b → WasAsked a.pass.seen → WasAsked b.pass.seen
 asked_on a b on w = subst WasAsked (sym on.more) (asked_longer a.pass.seen on.rest w)
 
-pub asked_by : (marks : List Mark) (at j : ℕ) (event : Event) (job : Job) → HasJob marks at j event job → is_drawing job ≡ true → WasAsked marks
-asked_by marks at j event job h draws = record {
+pub asked_by : (marks : List Mark) (at j : ℕ) (event : Event) (job : Job) (informed : List ℕ) → HasJob marks at j event job informed → is_drawing job ≡ true → WasAsked marks
+asked_by marks at j event job informed h draws = record {
   at = at;
   entry = h.entry.entry;
+  move = h.entry.move;
   here = h.entry.here;
   place = j;
   job = job;
@@ -85,18 +110,19 @@ asked_by marks at j event job h draws = record {
   draws = draws;
 }
 
-pub front_of_itself : {E : Type 0} (ms : List E) → IsPrefix ms ms
-front_of_itself ms = record { rest = []; is = sym (append-nil ms) }
-
-pub front_more : {E : Type 0} (xs ys zs : List E) → IsPrefix xs ys → IsPrefix ys zs → IsPrefix xs zs
-front_more xs ys zs p q = record { rest = p.rest ++ q.rest; is = q.is ∙ ap (λ l. l ++ q.rest) p.is ∙ append_assoc xs p.rest q.rest }
-
 -- a pass that went in has seen all that stands there
 pub front_by : {T : Type 0} (q p : PassView T Mark) (ms : List Mark) → p ≡ record q { inside = true; seen = ms } → IsPrefix p.seen ms
 front_by q p ms is = record { rest = []; is = sym (ap (λ x. x.seen) is) ∙ sym (append-nil p.seen) }
 
-abbrev pub numbered : {F : Type 0} → BearerOf F → ℕ → BearerOf F
-numbered b n = record b { number = n }
+-- to have an event handled needs the machine
+stuck_for : (task : Task) (rest : List Task) (event : Event) → IsFor event task → IsStuck (task ∷ rest)
+stuck_for (handle e) rest event is = refl
+stuck_for (follow e) rest event is = refl
+stuck_for (write i j e job) rest event is = absurd is
+
+-- with this number, and told these words
+abbrev pub numbered : {F : Type 0} → BearerOf F → ℕ → List ℕ → BearerOf F
+numbered b n informed = record b { number = n; drawer = record b.drawer { informed = informed } }
 
 module _ {F : Type 0} (k first : ℕ) (tasks : List Task) where
   -- it has entered, and added nothing yet
@@ -107,6 +133,12 @@ module _ {F : Type 0} (k first : ℕ) (tasks : List Task) where
       let same : p.own ++ added p.seen ms ≡ b.pass.own = ap (λ q. q.own ++ added q.seen ms) is ∙ ap (λ l. b.pass.own ++ l) (added_none ms) ∙ append-nil b.pass.own in
       subst (λ o. Did k first tasks left o ms b.lines.items b.number b.drawer) (sym same) (did_seen k first tasks left b.pass.own b.pass.seen ms b.lines.items b.number b.drawer front h)
 
+  -- its seat was told where the counter was moved to
+  pub did_told : (left : List Task) (b : BearerOf F) (d : DrawerView) → d ≡ record b.drawer { informed = d.informed } → DidBy k first tasks left b → DidBy k first tasks left (record b { drawer = d })
+  did_told left b d is h =
+      did_looked k first tasks left b.pass.own b.pass.seen b.lines.items b.number b.drawer d (ap (λ x. x.drawn) is) (ap (λ x. x.noted) is) (ap (λ x. x.known) is)
+      (record { rest = []; is = ap (λ x. x.looks) is ∙ sym (append-nil b.drawer.looks) }) h
+
   module _ (b : BearerOf F) (p : PassView (NodeView F) Mark) (node : NodeView F) (own : p.own ≡ b.pass.own ++ added b.pass.seen (node_marks node))
       (leaves : p ≡ record b.pass { inside = false; seen = node_marks node; own = p.own }) where
     -- it has left
@@ -115,30 +147,32 @@ module _ {F : Type 0} (k first : ℕ) (tasks : List Task) where
         subst (λ o. Did k first tasks left o p.seen b.lines.items b.number b.drawer) (sym own)
         (subst (λ s. Did k first tasks left (b.pass.own ++ added b.pass.seen (node_marks node)) s b.lines.items b.number b.drawer) (sym (ap (λ x. x.seen) leaves)) h)
 
-    pub broke_left : Broke k first tasks (after_turn b node) → Broke k first tasks (record b { pass = p })
-    broke_left h = record {
-      left = h.left;
+    pub off_left : (left : List Task) → LeftOff k first tasks left (after_turn b node) → LeftOff k first tasks left (record b { pass = p })
+    off_left left h = record {
       before = h.before;
       at = h.at;
       hand = h.hand;
       own = own ∙ h.own;
-      did = subst (λ s. Did k first tasks h.left h.before s b.lines.items b.number b.drawer) (sym (ap (λ x. x.seen) leaves)) h.did;
+      did = subst (λ s. Did k first tasks left h.before s b.lines.items b.number b.drawer) (sym (ap (λ x. x.seen) leaves)) h.did;
       next = h.next;
     }
 
+    pub broke_left : Broke k first tasks (after_turn b node) → Broke k first tasks (record b { pass = p })
+    broke_left h = record { left = h.left; is = off_left h.left h.is; stuck = h.stuck }
+
   module _ (b : BearerOf F) (old new : NodeView F) (seen : IsPrefix b.pass.seen (node_marks old)) where
     -- an event more was handled
-    pub did_handled : (task : Task) (rest : List Task) (event : Event) (e : Entry) (at : ℕ) → IsFor event task → DidBy k first tasks (task ∷ rest) (after_turn b old)
-        → node_marks new ≡ node_marks old ++ M.Handled e ∷ [] → at ≡ length (node_marks old) → e.event ≡ event → e.bearer ≡ k → e.number ≡ b.number + 1
+    pub did_handled : (task : Task) (rest : List Task) (event : Event) (e : Entry) (move at : ℕ) → IsFor event task → DidBy k first tasks (task ∷ rest) (after_turn b old)
+        → node_marks new ≡ node_marks old ++ M.Handled e move ∷ [] → at ≡ length (node_marks old) → e.event ≡ event → e.bearer ≡ k → e.number ≡ b.number + 1
         → DidBy k first tasks (write_tasks at 0 event e.jobs ++ rest) (after_turn (record b { number = b.number + 1 }) new)
-    did_handled task rest event e at is h grew place same by numbered =
+    did_handled task rest event e move at is h grew place same by numbered =
         let ms = node_marks old in
         let mine = b.pass.own ++ added b.pass.seen ms in
-        let whole = ms ++ M.Handled e ∷ [] in
+        let whole = ms ++ M.Handled e move ∷ [] in
         let more : b.pass.own ++ added b.pass.seen whole ≡ mine ++ added ms whole =
-        ap (λ l. b.pass.own ++ l) (added_more b.pass.seen ms (M.Handled e) seen) ∙ sym (append_assoc b.pass.own (added b.pass.seen ms) ((length ms, M.Handled e) ∷ []))
-        ∙ ap (λ l. mine ++ l) (sym (added_one ms (M.Handled e))) in
-        let done = did_acted k first tasks task rest mine ms ms b.lines.items b.number b.drawer event e is h (front_of_itself ms) same by numbered in
+        ap (λ l. b.pass.own ++ l) (added_more b.pass.seen ms (M.Handled e move) seen) ∙ sym (append_assoc b.pass.own (added b.pass.seen ms) ((length ms, M.Handled e move) ∷ []))
+        ∙ ap (λ l. mine ++ l) (sym (added_one ms (M.Handled e move))) in
+        let done = did_acted k first tasks task rest mine ms ms b.lines.items b.number b.drawer event e move is h (front_of_itself ms) same by numbered in
         subst (λ l. Did k first tasks (write_tasks at 0 event e.jobs ++ rest) (b.pass.own ++ added b.pass.seen l) l b.lines.items (b.number + 1) b.drawer) (sym grew)
         (subst (λ o. Did k first tasks (write_tasks at 0 event e.jobs ++ rest) o whole b.lines.items (b.number + 1) b.drawer) (sym more)
         (subst (λ n. Did k first tasks (write_tasks n 0 event e.jobs ++ rest) (mine ++ added ms whole) whole b.lines.items (b.number + 1) b.drawer) (sym place) done))
@@ -149,12 +183,11 @@ module _ {F : Type 0} (k first : ℕ) (tasks : List Task) where
 
     -- the bearer's mark was put behind its own entries
     marked : (left : List Task) (hand : Option Event) → DidBy k first tasks left (after_turn b old) → node_marks new ≡ node_marks old ++ M.Stopped hand ∷ []
-        → ((event : Event) → hand ≡ Some event → IsNext event left) → Broke k first tasks (after_turn b new)
+        → ((event : Event) → hand ≡ Some event → IsNext event left) → LeftOff k first tasks left (after_turn b new)
     marked left hand h grew next =
         let ms = node_marks old in
         let mine = b.pass.own ++ added b.pass.seen ms in
         record {
-          left = left;
           before = mine;
           at = length ms;
           hand = hand;
@@ -167,16 +200,23 @@ module _ {F : Type 0} (k first : ℕ) (tasks : List Task) where
 
     pub stopped_at : (task : Task) (rest : List Task) (event : Event) → IsFor event task → DidBy k first tasks (task ∷ rest) (after_turn b old)
         → IsStopped event (node_marks old) (node_marks new) → Broke k first tasks (after_turn b new)
-    stopped_at task rest event is h s = marked (task ∷ rest) s.hand h s.marks (λ other e. subst (λ x. IsFor x task) (sym (s.is other e)) is)
+    stopped_at task rest event is h s = record {
+      left = task ∷ rest;
+      is = marked (task ∷ rest) s.hand h s.marks (λ other e. subst (λ x. IsFor x task) (sym (s.is other e)) is);
+      stuck = stuck_for task rest event is;
+    }
 
-    pub stopped_bare : (left : List Task) → DidBy k first tasks left (after_turn b old) → IsStoppedBare (node_marks old) (node_marks new) → Broke k first tasks (after_turn b new)
+    pub stopped_bare : (left : List Task) → DidBy k first tasks left (after_turn b old) → IsStoppedBare (node_marks old) (node_marks new) → LeftOff k first tasks left (after_turn b new)
     stopped_bare left h s = marked left None h s.marks (λ event e. absurd cc)
 
 -- where the entry stands
-pub entry_here : (ms ns : List Mark) (event : Event) (e : Entry) (at : ℕ) → ns ≡ ms ++ M.Handled e ∷ [] → at ≡ length ms → e.event ≡ event → HasEntry ns at event e.jobs
-entry_here ms ns event e at grew place same = record {
+pub entry_here : (ms ns : List Mark) (event : Event) (e : Entry) (move at : ℕ) (informed : List ℕ) → ns ≡ ms ++ M.Handled e move ∷ [] → at ≡ length ms → HasBeenTold informed move → e.event ≡ event
+    → HasEntry ns at event e.jobs informed
+entry_here ms ns event e move at informed grew place told same = record {
   entry = e;
-  here = ap (λ s. slice_get s at) grew ∙ ap (slice_get (ms ++ M.Handled e ∷ [])) place ∙ get_last ms (M.Handled e);
+  move = move;
+  here = ap (λ s. slice_get s at) grew ∙ ap (slice_get (ms ++ M.Handled e move ∷ [])) place ∙ get_last ms (M.Handled e move);
+  knows = told;
   event_is = same;
   jobs_are = refl;
 }

@@ -6,11 +6,12 @@ use Rattle.mesh_base.specs.declared.pair.Pair.{Pair}
 use Rattle.mesh_types.specs.declared.events.Event.{Event}
 use Rattle.mesh_types.specs.declared.history.Sent.{Sent}
 use Rattle.machine_contract.specs.Ranges.{IsEvent}
-use Rattle.run_definitions.specs.Order.{Placed, Task, Walks, handle, follow, is_outside}
+use Rattle.run_definitions.specs.Order.{IsStuck, Placed, Task, Walks, handle, follow, is_outside}
 use Rattle.seq_word.specs.Rule.{times}
 use Rattle.seq_word.specs.Seen.{DrawerView, NumbersView}
 use Rattle.seq_word.specs.Seen as seen
 use Rattle.seq_word.specs.declared.looks.Look.TheVariants as saw
+use Rattle.turn_lock.specs.Entries.{IsPrefix}
 use Rattle.turn_lock.specs.Views.{IsPassOf, TurnView}
 use Rattle.locked_node.specs.declared.marks.Mark.{Mark}
 use Rattle.locked_node.specs.declared.marks.Mark.TheVariants as M
@@ -21,15 +22,18 @@ use Rattle.node_bearer.specs.declared.bearer.Bearer.{Bearer}
 use Rattle.node_bearer.specs.declared.bearer.Drawn.{Drawn}
 use Rattle.node_bearer.specs.declared.bearer.Drawn.TheVariants as D
 
-abbrev pub marks_at : List Placed → List (ℕ × Mark)
-marks_at entries = map (λ p. (p.at, M.Handled p.entry)) entries
+-- these marks are those of these entries, at their places, whatever moves they tell
+abbrev pub AreMarksAt : List (ℕ × Mark) → List Placed → Type 0
+AreMarksAt [] [] = ⊤
+AreMarksAt (x ∷ own) (p ∷ entries) = (move : ℕ) × (x ≡ (p.at, M.Handled p.entry move)) × AreMarksAt own entries
+AreMarksAt _ _ = ⊥
 
 -- With these tasks bearer k, whose last number before was `first`, made these entries of its own and these lines, and drew the words that
 -- the lines show; these tasks are left.
 pub record Did (k first : ℕ) (tasks left : List Task) (own : List (ℕ × Mark)) (marks : List Mark) (lines : List Sent)
     (number : ℕ) (d : DrawerView) : Type 0 where
   pub entries : List Placed
-  pub own_are : own ≡ marks_at entries
+  pub own_are : AreMarksAt own entries
   pub walks : Walks tasks entries lines left
   pub bearer : All (λ p. p.entry.bearer ≡ k) entries
   pub numbers : map (λ p. p.entry.number) entries ≡ range_with_len (first + 1) (length entries)
@@ -55,9 +59,9 @@ BearerOf F = Bearer (NodeView F) Mark (Origin F)
 abbrev pub DidBy : {F : Type 0} → ℕ → ℕ → List Task → List Task → BearerOf F → Type 0
 DidBy k first tasks left b = Did k first tasks left b.pass.own b.pass.seen b.lines.items b.number b.drawer
 
--- a bearer that stopped, but for want of memory: its own entries end with its mark, and an event in hand is that of its next task
-pub record Broke {F : Type 0} (k first : ℕ) (tasks : List Task) (b : BearerOf F) : Type 0 where
-  pub left : List Task
+-- a bearer that stopped, but for want of memory, with these tasks left: its own entries end with its mark, and an event in hand is that of
+-- its next task
+pub record LeftOff {F : Type 0} (k first : ℕ) (tasks left : List Task) (b : BearerOf F) : Type 0 where
   pub before : List (ℕ × Mark)
   pub at : ℕ
   pub hand : Option Event
@@ -65,11 +69,18 @@ pub record Broke {F : Type 0} (k first : ℕ) (tasks : List Task) (b : BearerOf 
   pub did : Did k first tasks left before b.pass.seen b.lines.items b.number b.drawer
   pub next : (event : Event) → hand ≡ Some event → IsNext event left
 
+-- a bearer that stopped so, and came as far as it does without the machine
+pub record Broke {F : Type 0} (k first : ℕ) (tasks : List Task) (b : BearerOf F) : Type 0 where
+  pub left : List Task
+  pub is : LeftOff k first tasks left b
+  pub stuck : IsStuck left
+
 -- a pair more was drawn, above all before it
 pub record DrewPair (p : Pair) (d e : DrawerView) : Type 0 where
   pub drawn : e.drawn ≡ d.drawn ++ word_of p ∷ []
   pub noted : e.noted ≡ d.noted
   pub known : e.known ≡ d.known
+  pub informed : e.informed ≡ d.informed
   pub looks : seen.IsPrefix d.looks e.looks
   pub above : seen.IsAbove d (word_of p)
   pub seq : p.seq < 2 ^ 24
@@ -84,6 +95,7 @@ pub record SawEnd (iv : ℕ) (d e : DrawerView) : Type 0 where
   pub drawn : e.drawn ≡ d.drawn
   pub noted : e.noted ≡ d.noted
   pub known : e.known ≡ d.known
+  pub informed : e.informed ≡ d.informed
   pub looks : seen.IsPrefix d.looks e.looks
   pub above : seen.IsAbove d (iv * 2 ^ 25 + 2 ^ 24)
   pub here : Contains e.looks (saw.Counter (iv * 2 ^ 25 + 2 ^ 24))
@@ -113,12 +125,13 @@ pub record IsRider {F : Type 0} (all : ℕ) (n : NumbersView) (turn : TurnView (
   pub outside : b.pass.inside ≡ false
   pub parts : b.pass.parts ≡ all
 
--- between two calls a bearer has seen more, has not stopped, and has its parts of the words
+-- between two calls a bearer has seen more, was told more of where the counter was moved to, has not stopped, and has its parts of the words
 pub record GoesOn {F : Type 0} (old new : BearerOf F) : Type 0 where
   pub rest : List Mark
   pub more : new.pass.seen ≡ old.pass.seen ++ rest
   pub noted : new.drawer.noted ≡ old.drawer.noted
   pub known : new.drawer.known ≡ old.drawer.known
+  pub told : IsPrefix old.drawer.informed new.drawer.informed
   pub parts : new.drawer.parts ≡ old.drawer.parts
   pub stop : new.stop ≡ old.stop
 

@@ -10,17 +10,18 @@ use Rattle.mesh_types.specs.declared.jobs.Job.{Job}
 use Rattle.mesh_types.specs.declared.lines.Outcome.{Outcome}
 use Rattle.mesh_types.specs.declared.lines.Outcome.TheVariants as O
 use Rattle.report_definitions.specs.Record.{Shown}
-use Rattle.run_definitions.specs.RunOf.{draws, words_told}
+use Rattle.run_definitions.specs.RunOf.{draws, word_told, words_told}
 use Rattle.seq_word.specs.Rule.{IsPast, times}
 use Rattle.seq_word.specs.Seen.{DrawerView}
 use Rattle.seq_word.specs.declared.looks.Look.{Look}
 use Rattle.seq_word.specs.declared.looks.Look.TheVariants as saw
+use Rattle.locked_node.specs.Node.{HasBeenTold}
 use Rattle.locked_node.specs.declared.marks.Mark.{Mark}
 use Rattle.locked_node.specs.declared.marks.Mark.TheVariants as M
 
 -- what a line shows of the entry that stands at its place
 abbrev pub shown_at : Mark → Sent → Option Shown
-shown_at (M.Handled e) s =
+shown_at (M.Handled e move) s =
     option_map (λ job. record { entry = e; job = job; outcome = s.outcome }) (slice_get e.jobs s.job)
 shown_at (M.Stopped hand) s = None
 
@@ -57,8 +58,19 @@ pub record IsBehind (d : DrawerView) (word : ℕ) : Type 0 where
   pub noted : All (λ x. x < word) d.noted
   pub known : All (IsPast word) d.known
 
+-- the word that the counter had been moved to last behind the entry of a mark
+abbrev pub move_of : Mark → ℕ
+move_of (M.Handled e move) = move
+move_of (M.Stopped hand) = 0
+
+-- the line tells no word below where the counter had been moved to behind its entry
+abbrev pub IsFrom : List Mark → Sent → Type 0
+IsFrom marks s = (line : Shown) (mark : Mark) (word : ℕ) → shown_in marks s ≡ Some line → slice_get marks s.entry ≡ Some mark
+    → word_told line.job line.outcome ≡ Some word → move_of mark ≤ word
+
 -- The entry and the job of each line are there; the lines draw the words of this seat, each with a SEQ below 2^24. A job's number, from 1 on,
--- has 8 bits. No line tells a word below that of an earlier one, or below what was known where the seat was split off.
+-- has 8 bits. No line tells a word below that of an earlier one, or below what was known where the seat was split off, or below where the counter
+-- had been moved to behind its entry: so it tells none of an earlier transmit IV Index.
 pub record AreShown (marks : List Mark) (lines : List Sent) (d : DrawerView) : Type 0 where
   pub shows : List Shown
   pub found : map (shown_in marks) lines ≡ map Some shows
@@ -69,17 +81,21 @@ pub record AreShown (marks : List Mark) (lines : List Sent) (d : DrawerView) : T
   pub own : HasOwnLooks (ends_told shows) d.looks
   pub onward : AllPairs (λ x y. x ≤ y) (words_told shows)
   pub behind : All (IsBehind d) (words_told shows)
+  pub from : All (IsFrom marks) lines
 
--- at this place stands the entry of this event, which has these jobs
-pub record HasEntry (marks : List Mark) (at : ℕ) (event : Event) (jobs : List Job) : Type 0 where
+-- at this place stands the entry of this event, which has these jobs; a seat that was told these words knows where the counter had been moved to
+-- behind it
+pub record HasEntry (marks : List Mark) (at : ℕ) (event : Event) (jobs : List Job) (informed : List ℕ) : Type 0 where
   pub entry : Entry
-  pub here : slice_get marks at ≡ Some (M.Handled entry)
+  pub move : ℕ
+  pub here : slice_get marks at ≡ Some (M.Handled entry move)
+  pub knows : HasBeenTold informed move
   pub event_is : entry.event ≡ event
   pub jobs_are : entry.jobs ≡ jobs
 
 -- and this is one of them, whose number, from 1 on, has 8 bits
-pub record HasJob (marks : List Mark) (at j : ℕ) (event : Event) (job : Job) : Type 0 where
+pub record HasJob (marks : List Mark) (at j : ℕ) (event : Event) (job : Job) (informed : List ℕ) : Type 0 where
   pub jobs : List Job
-  pub entry : HasEntry marks at event jobs
+  pub entry : HasEntry marks at event jobs informed
   pub place : slice_get jobs j ≡ Some job
   pub short : j + 1 < 2 ^ 8

@@ -9,7 +9,7 @@ ghost use Rattle.seq_word.specs.Word.{seq_of};
 ghost use Rattle.turn_lock.specs.Entries.{IsPrefix};
 ghost use Rattle.locked_node.specs.Asked.{WasAsked};
 ghost use Rattle.locked_node.specs.Node.{OnStop, node_marks, origin_of};
-ghost use Rattle.node_bearer.specs.Did.{AreEvents, Broke, DidBy, GoesOn, IsFor, IsRider};
+ghost use Rattle.node_bearer.specs.Did.{AreEvents, Broke, DidBy, GoesOn, IsFor, IsRider, LeftOff};
 ghost use Rattle.node_bearer.specs.Marked.{HasEntry};
 ghost use Rattle.node_bearer.specs.Turns.{AreRead, after_turn, left_of};
 
@@ -73,17 +73,23 @@ fn handle_one<M: Machine, F: Flash + Send + Drop, S: Sharing>(
     early: &ReadBefore<'_, M::Reader, M::Reading>,
 ) -> Result<Answered, Stop>
     requires made { node.old.machine.which ≡ place.now.numbers.now.which }
+    requires draws { b.old.drawer.which ≡ place.now.numbers.now.which }
     requires event { IsEvent node.old.machine.elements event.now }
     requires early { M.fits early.now.reader.now early.now.reading.now event.now }
     requires seen { IsPrefix b.old.pass.seen (node_marks node.old) }
     ensures origin { origin_of F.chip node.new ≡ origin_of F.chip node.old }
     ensures front { IsPrefix (node_marks node.old) (node_marks node.new) }
-    ensures frame { b.new ≡ record b.old { number = b.new.number } }
+    ensures frame { b.new
+        ≡ record b.old {
+          number = b.new.number;
+          drawer = record b.old.drawer { informed = b.new.drawer.informed };
+        } }
+    ensures told { IsPrefix b.old.drawer.informed b.new.drawer.informed }
     ensures did { (first : ℕ) (tasks rest : List Task) (task : Task) → IsFor event.now task
         → DidBy place.now.bearer first tasks (task ∷ rest) (after_turn b.old node.old)
         → IfOk result
         (λ a. DidBy place.now.bearer first tasks (write_tasks a.at 0 event.now a.jobs ++ rest) (after_turn b.new node.new)) }
-    ensures entry { IfOk result (λ a. HasEntry (node_marks node.new) a.at event.now a.jobs) }
+    ensures entry { IfOk result (λ a. HasEntry (node_marks node.new) a.at event.now a.jobs b.new.drawer.informed) }
     ensures jobs { IfOk result (λ a. All (IsJob event.now) a.jobs) }
     ensures quiet { is_outside event.now ≡ false → IfOk result (λ a. All IsQuiet a.jobs) }
     ensures stopped { (first : ℕ) (tasks rest : List Task) (task : Task) → IsFor event.now task
@@ -93,7 +99,14 @@ fn handle_one<M: Machine, F: Flash + Send + Drop, S: Sharing>(
     if b.number == u32::MAX {
         return Err(Stop::Memory);
     }
-    let answered = node.handle(place.numbers, place.bearer, b.number + 1, event, early)?;
+    let answered = node.handle(
+        place.numbers,
+        &mut b.drawer,
+        place.bearer,
+        b.number + 1,
+        event,
+        early,
+    )?;
     b.number += 1;
     Ok(answered)
 }
@@ -117,6 +130,7 @@ fn handle_all<M: Machine, F: Flash + Send + Drop, S: Sharing>(
     readings: &[M::Reading],
 ) -> Result<Acted, Stop>
     requires made { node.old.machine.which ≡ place.now.numbers.now.which }
+    requires draws { b.old.drawer.which ≡ place.now.numbers.now.which }
     requires events { AreEvents node.old.machine.elements events.now }
     requires some { 1 ≤ length events.now }
     requires few { length events.now ≤ length readings.now }
@@ -124,14 +138,20 @@ fn handle_all<M: Machine, F: Flash + Send + Drop, S: Sharing>(
     requires seen { IsPrefix b.old.pass.seen (node_marks node.old) }
     ensures origin { origin_of F.chip node.new ≡ origin_of F.chip node.old }
     ensures front { IsPrefix (node_marks node.old) (node_marks node.new) }
-    ensures frame { b.new ≡ record b.old { number = b.new.number } }
+    ensures frame { b.new
+        ≡ record b.old {
+          number = b.new.number;
+          drawer = record b.old.drawer { informed = b.new.drawer.informed };
+        } }
+    ensures told { IsPrefix b.old.drawer.informed b.new.drawer.informed }
     ensures last { IfOk result (λ a. a.last < length events.now) }
     ensures did { (first : ℕ) (tasks rest : List Task) (e : AnEvent)
         → DidBy place.now.bearer first tasks (map handle events.now ++ rest) (after_turn b.old node.old)
         → IfOk result
         (λ a. DidBy place.now.bearer first tasks (left_of a e events.now rest) (after_turn b.new node.new)) }
     ensures entry { (e : AnEvent) → IfOk result
-        (λ a. HasEntry (node_marks node.new) a.answered.at (slice_index_or events.now a.last e) a.answered.jobs) }
+        (λ a. HasEntry (node_marks node.new) a.answered.at (slice_index_or events.now a.last e) a.answered.jobs
+        b.new.drawer.informed) }
     ensures jobs { (e : AnEvent) → IfOk result
         (λ a. All (IsJob (slice_index_or events.now a.last e)) a.answered.jobs) }
     ensures stopped { (first : ℕ) (tasks rest : List Task)
@@ -165,12 +185,13 @@ pub fn act<M: Machine, F: Flash + Send + Drop, S: Sharing>(
     requires early { M.fits reader.old reading.now event.now }
     ensures rider { IsRider S.parts place.now.numbers.now place.now.turn.now b.new }
     ensures on { GoesOn b.old b.new }
-    ensures frame { (b.new.lines ≡ b.old.lines) × (b.new.drawer ≡ b.old.drawer) }
+    ensures frame { (b.new.lines ≡ b.old.lines)
+        × (b.new.drawer ≡ record b.old.drawer { informed = b.new.drawer.informed }) }
     ensures did { (first : ℕ) (tasks rest : List Task) (task : Task) → IsFor event.now task
         → DidBy place.now.bearer first tasks (task ∷ rest) b.old
         → IfOk result
         (λ a. DidBy place.now.bearer first tasks (write_tasks a.at 0 event.now a.jobs ++ rest) b.new) }
-    ensures entry { IfOk result (λ a. HasEntry b.new.pass.seen a.at event.now a.jobs) }
+    ensures entry { IfOk result (λ a. HasEntry b.new.pass.seen a.at event.now a.jobs b.new.drawer.informed) }
     ensures jobs { IfOk result (λ a. All (IsJob event.now) a.jobs) }
     ensures quiet { is_outside event.now ≡ false → IfOk result (λ a. All IsQuiet a.jobs) }
     ensures stopped { (first : ℕ) (tasks rest : List Task) (task : Task) → IsFor event.now task
@@ -205,13 +226,15 @@ pub fn act_on<M: Machine, F: Flash + Send + Drop, S: Sharing>(
     requires early { AreRead M.fits reader.old readings.now events.now }
     ensures rider { IsRider S.parts place.now.numbers.now place.now.turn.now b.new }
     ensures on { GoesOn b.old b.new }
-    ensures frame { (b.new.lines ≡ b.old.lines) × (b.new.drawer ≡ b.old.drawer) }
+    ensures frame { (b.new.lines ≡ b.old.lines)
+        × (b.new.drawer ≡ record b.old.drawer { informed = b.new.drawer.informed }) }
     ensures last { IfOk result (λ a. a.last < length events.now) }
     ensures did { (first : ℕ) (tasks rest : List Task) (e : AnEvent)
         → DidBy place.now.bearer first tasks (map handle events.now ++ rest) b.old
         → IfOk result (λ a. DidBy place.now.bearer first tasks (left_of a e events.now rest) b.new) }
     ensures entry { (e : AnEvent) → IfOk result
-        (λ a. HasEntry b.new.pass.seen a.answered.at (slice_index_or events.now a.last e) a.answered.jobs) }
+        (λ a. HasEntry b.new.pass.seen a.answered.at (slice_index_or events.now a.last e) a.answered.jobs
+        b.new.drawer.informed) }
     ensures jobs { (e : AnEvent) → IfOk result
         (λ a. All (IsJob (slice_index_or events.now a.last e)) a.answered.jobs) }
     ensures stopped { (first : ℕ) (tasks rest : List Task)
@@ -244,7 +267,7 @@ pub fn refill<M: Machine, F: Flash + Send + Drop, S: Sharing>(
     ensures did { (k first : ℕ) (tasks rest : List Task) → DidBy k first tasks rest b.old
         → OnOk result (DidBy k first tasks rest b.new) }
     ensures stopped { (k first : ℕ) (tasks rest : List Task) → DidBy k first tasks rest b.old
-        → IfErr result (λ e. OnStop e (Broke k first tasks b.new)) }
+        → IfErr result (λ e. OnStop e (LeftOff k first tasks rest b.new)) }
 {
     let mut node = place.sharing.enter(place.turn, &mut b.pass);
     let result = node.refill(place.numbers, dry);

@@ -8,7 +8,7 @@ ghost use Rattle.seq_word.specs.Seen.{AfterLost, Finds, HasCause, IsAbove, IsEnd
 ghost use Rattle.seq_word.specs.Word.{seq_of};
 ghost use Rattle.locked_node.specs.Asked.{WasAsked};
 ghost use Rattle.locked_node.specs.Node.{OnStop};
-ghost use Rattle.node_bearer.specs.Did.{Broke, DidBy, DrewBy, GoesOn, IsRider, IsUnspent};
+ghost use Rattle.node_bearer.specs.Did.{DidBy, DrewBy, GoesOn, IsRider, IsUnspent, LeftOff};
 ghost use Rattle.node_bearer.specs.Tries.{DrawsUntil, IsRaised};
 
 use crate::acting::refill;
@@ -48,7 +48,7 @@ fn raise<M: Machine, F: Flash + Send + Drop, S: Sharing>(
     ensures did { (k first : ℕ) (tasks rest : List Task) → DidBy k first tasks rest b.old
         → OnOk result (DidBy k first tasks rest b.new) }
     ensures stopped { (k first : ℕ) (tasks rest : List Task) → DidBy k first tasks rest b.old
-        → IfErr result (λ e. OnStop e (Broke k first tasks b.new)) }
+        → IfErr result (λ e. OnStop e (LeftOff k first tasks rest b.new)) }
 {
     // Else the mark is at the end of its IV Index, and the counter under the next one: its mark was published since.
     if dry.mark() % WORDS_PER_IV < SPENT_SEQ {
@@ -64,7 +64,7 @@ fn draw_below(n: &Numbers, d: &mut Drawer) -> Result<Pair, Option<DrawStop>>
     requires made { d.old.which ≡ n.now.which }
     ensures looks { IsPrefix d.old.looks d.new.looks }
     ensures frame { (d.new.which ≡ d.old.which) × (d.new.noted ≡ d.old.noted) × (d.new.known ≡ d.old.known)
-        × (d.new.parts ≡ d.old.parts) }
+        × (d.new.informed ≡ d.old.informed) × (d.new.parts ≡ d.old.parts) }
     ensures drawn { IfOk result (λ p. d.new.drawn ≡ d.old.drawn ++ word_of p ∷ []) }
     ensures above { IfOk result (λ p. IsAbove d.old (word_of p)) }
     ensures unspent { IfOk result (λ p. p.seq < 2 ^ 24) }
@@ -102,7 +102,7 @@ pub fn draw<M: Machine, F: Flash + Send + Drop, S: Sharing>(
     ensures did { (k first : ℕ) (tasks rest : List Task) → DidBy k first tasks rest b.old
         → IfOk result (λ r. DrewBy r k first tasks rest b.new) }
     ensures stopped { (k first : ℕ) (tasks rest : List Task) → DidBy k first tasks rest b.old
-        → IfErr result (λ e. OnStop e (Broke k first tasks b.new)) }
+        → IfErr result (λ e. OnStop e (LeftOff k first tasks rest b.new)) }
 {
     for _ in 0..MOST_TRIES {
         match draw_below(place.numbers, &mut b.drawer) {

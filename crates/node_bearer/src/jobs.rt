@@ -35,7 +35,7 @@ fn plain_job<M: Machine, F: Flash + Send + Drop>(
 ) -> Result<Option<Event>, Stop>
     requires job { IsJob event.now job.now }
     requires plain { is_drawing job.now ≡ false }
-    requires there { HasJob b.old.pass.seen at j event.now job.now }
+    requires there { HasJob b.old.pass.seen at j event.now job.now b.old.drawer.informed }
     ensures frame { b.new ≡ record b.old { lines = b.new.lines } }
     ensures did { (k first : ℕ) (tasks rest : List Task)
         → DidBy k first tasks (write at j event.now job.now ∷ rest) b.old
@@ -64,7 +64,7 @@ fn spent_job<M: Machine, F: Flash + Send + Drop>(
     iv: u32,
 ) -> Result<Option<Event>, Stop>
     requires draws { is_drawing job.now ≡ true }
-    requires there { HasJob b.old.pass.seen at j event.now job.now }
+    requires there { HasJob b.old.pass.seen at j event.now job.now b.old.drawer.informed }
     ensures frame { b.new ≡ record b.old { lines = b.new.lines } }
     ensures did { (k first : ℕ) (tasks rest : List Task)
         → DrewBy (Drawn.Spent iv) k first tasks (write at j event.now job.now ∷ rest) b.old
@@ -94,7 +94,7 @@ fn drawn_job<M: Machine, F: Flash + Send + Drop>(
     requires job { IsJob event.now job.now }
     requires draws { is_drawing job.now ≡ true }
     requires pair { pair.seq < 2 ^ 24 }
-    requires there { HasJob b.old.pass.seen at j event.now job.now }
+    requires there { HasJob b.old.pass.seen at j event.now job.now b.old.drawer.informed }
     ensures frame { b.new ≡ record b.old { lines = b.new.lines } }
     ensures did { (k first : ℕ) (tasks rest : List Task)
         → DrewBy (Drawn.Pair pair) k first tasks (write at j event.now job.now ∷ rest) b.old
@@ -126,7 +126,7 @@ fn do_job<M: Machine, F: Flash + Send + Drop, S: Sharing>(
 ) -> Result<Option<Event>, Stop>
     requires rider { IsRider S.parts place.now.numbers.now place.now.turn.now b.old }
     requires job { IsJob event.now job.now }
-    requires there { HasJob b.old.pass.seen at j event.now job.now }
+    requires there { HasJob b.old.pass.seen at j event.now job.now b.old.drawer.informed }
     ensures rider { IsRider S.parts place.now.numbers.now place.now.turn.now b.new }
     ensures on { GoesOn b.old b.new }
     ensures did { (k first : ℕ) (tasks rest : List Task)
@@ -157,7 +157,7 @@ fn do_quiet_jobs<M: Machine, F: Flash + Send + Drop, S: Sharing>(
     jobs: &[Job],
 ) -> Result<(), Stop>
     requires rider { IsRider S.parts place.now.numbers.now place.now.turn.now b.old }
-    requires entry { HasEntry b.old.pass.seen at event.now jobs.now }
+    requires entry { HasEntry b.old.pass.seen at event.now jobs.now b.old.drawer.informed }
     requires few { length jobs.now ≤ 160 }
     requires jobs { All (IsJob event.now) jobs.now }
     requires quiet { All IsQuiet jobs.now }
@@ -238,7 +238,7 @@ pub fn do_jobs<M: Machine, F: Flash + Send + Drop, S: Sharing>(
     reading: &mut M::Reading,
 ) -> Result<(), Stop>
     requires rider { IsRider S.parts place.now.numbers.now place.now.turn.now b.old }
-    requires entry { HasEntry b.old.pass.seen at event.now jobs.now }
+    requires entry { HasEntry b.old.pass.seen at event.now jobs.now b.old.drawer.informed }
     requires few { length jobs.now ≤ 160 }
     requires jobs { All (IsJob event.now) jobs.now }
     ensures rider { IsRider S.parts place.now.numbers.now place.now.turn.now b.new }

@@ -17,8 +17,8 @@ use Rattle.run_definitions.specs.Order.{Placed, Task, Walks, handle, stops}
 use Rattle.seq_word.specs.Seen.{DrawerView}
 use Rattle.locked_node.specs.declared.marks.Mark.{Mark}
 use Rattle.locked_node.specs.Node.{OnStop}
-use Rattle.node_bearer.specs.Did.{BearerOf, Broke, Did, DidBy, GoesOn}
-use Rattle.node_bearer.specs.Marked.{AreShown, IsBehind, IsSpentSeen}
+use Rattle.node_bearer.specs.Did.{AreMarksAt, BearerOf, Broke, Did, DidBy, GoesOn}
+use Rattle.node_bearer.specs.Marked.{AreShown, IsBehind, IsFrom, IsSpentSeen}
 use Rattle.node_bearer.proofs.Turning.{on_stop}
 use Rattle.node_phase.specs.Worked.{IsFresh, Worked}
 
@@ -59,13 +59,14 @@ nothing_shown marks d w = record {
   own = λ x. omega arith;
   onward = λ i j e lt within. absurd (omega (arith, within));
   behind = All-nil (IsBehind d);
+  from = All-nil (IsFrom marks);
 }
 
 pub did_nothing : (k number : ℕ) (tasks : List Task) (own : List (ℕ × Mark)) (marks : List Mark) (lines : List Sent) (d : DrawerView)
     → own ≡ [] → lines ≡ [] → d.drawn ≡ [] → Did k number tasks tasks own marks lines number d
 did_nothing k number tasks own marks lines d o l w = record {
   entries = [];
-  own_are = o;
+  own_are = subst (λ xs. AreMarksAt xs []) (sym o) tt;
   walks = subst (λ ls. Walks tasks [] ls tasks) (sym l) stops;
   bearer = All-nil (λ (p : Placed). p.entry.bearer ≡ k);
   numbers = refl;
@@ -102,7 +103,7 @@ module _ {F : Type 0} (k : ℕ) (events : List Event) (old b : BearerOf F) where
         (again e (broke old.number (map handle events) (begins fresh)));
   } where
     again : (e : Stop) → OnStop e (Broke k old.number (map handle events) b) → OnStop e (Broke k old.number (map handle events) (record b { stop = stop }))
-    again e h = on_stop e (λ x. record { left = x.left; before = x.before; at = x.at; hand = x.hand; own = x.own; did = x.did; next = x.next }) h
+    again e h = on_stop e (λ x. record { left = x.left; is = record { before = x.is.before; at = x.is.at; hand = x.is.hand; own = x.is.own; did = x.is.did; next = x.is.next }; stuck = x.stuck }) h
 
 -- what a test keeps of one bearer's own entries, where they are the only ones
 pub kept_one : (keep : ℕ × Mark → Bool) (own ys : List (ℕ × Mark)) → KeptOf keep ([] ∷ own ∷ []) ys → filter keep own ≡ ys

@@ -11,10 +11,10 @@ use Rattle.mesh_types.specs.declared.history.Sent.{Sent}
 use Rattle.machine_contract.specs.declared.answers.Stop.{Stop}
 use Rattle.machine_contract.specs.declared.answers.Stop.TheVariants as S
 use Rattle.report_definitions.specs.Record.{list_at}
-use Rattle.run_definitions.specs.Order.{Part, Placed, Task, Walks, handle, of_bearer, stops}
+use Rattle.run_definitions.specs.Order.{IsStuck, Part, Placed, Task, Walks, handle, of_bearer, stops}
 use Rattle.seq_word.specs.Seen.{DrawerView}
 use Rattle.locked_node.specs.declared.marks.Mark.{Mark}
-use Rattle.node_bearer.specs.Did.{BearerOf, Broke, Did, marks_at}
+use Rattle.node_bearer.specs.Did.{AreMarksAt, BearerOf, Broke, Did}
 use Rattle.locked_node.specs.Node.{NodeView, node_marks}
 use Rattle.turn_lock.specs.Entries.{added}
 use Rattle.turn_lock.proofs.Kept.{kept_at}
@@ -26,7 +26,7 @@ use Rattle.node_phase.proofs.Mine.{drop_mine, entries_of_bearer, is_by, keep_min
 -- what a bearer did, whether it stopped or not
 pub record DidPart (k first : ℕ) (tasks left : List Task) (own : List (ℕ × Mark)) (lines : List Sent) (number : ℕ) : Type 0 where
   pub entries : List Placed
-  pub kept : filter (is_by k) own ≡ marks_at entries
+  pub kept : AreMarksAt (filter (is_by k) own) entries
   pub other : (j : ℕ) → j ≢ k → filter (is_by j) own ≡ []
   pub walks : Walks tasks entries lines left
   pub numbers : map (λ p. p.entry.number) entries ≡ range_with_len (first + 1) (length entries)
@@ -36,33 +36,35 @@ part_of_did : (k first : ℕ) (tasks left : List Task) (own : List (ℕ × Mark)
     → Did k first tasks left own marks lines number d → DidPart k first tasks left own lines number
 part_of_did k first tasks left own marks lines number d h = record {
   entries = h.entries;
-  kept = ap (filter (is_by k)) h.own_are ∙ keep_mine k h.entries h.bearer;
-  other = λ j n. ap (filter (is_by j)) h.own_are ∙ drop_mine k j h.entries n h.bearer;
+  kept = subst (λ l. AreMarksAt l h.entries) (sym (keep_mine k own h.entries h.own_are h.bearer)) h.own_are;
+  other = λ j n. drop_mine k j own h.entries n h.own_are h.bearer;
   walks = h.walks;
   numbers = h.numbers;
   count = h.count;
 }
 
--- a bearer's part, and that nothing is left where it did not stop
+-- a bearer's part, that what it left begins with what needs the machine, and that nothing is left where it did not stop
 pub record PartOf {F : Type 0} (k : ℕ) (events : List Event) (old new : BearerOf F) : Type 0 where
   pub left : List Task
   pub did : DidPart k old.number (map handle events) left new.pass.own new.lines.items new.number
+  pub stuck : IsStuck left
   pub whole : new.stop ≡ None → left ≡ []
 
 module _ {F : Type 0} (k : ℕ) (events : List Event) (old new : BearerOf F) where
   of_broke : (e : Stop) → new.stop ≡ Some e → Broke k old.number (map handle events) new → PartOf k events old new
   of_broke e is b =
-      let p = part_of_did k old.number (map handle events) b.left b.before new.pass.seen new.lines.items new.number new.drawer b.did in
+      let p = part_of_did k old.number (map handle events) b.left b.is.before new.pass.seen new.lines.items new.number new.drawer b.is.did in
       record {
         left = b.left;
         did = record {
           entries = p.entries;
-          kept = ap (filter (is_by k)) b.own ∙ stop_dropped k b.at b.hand b.before ∙ p.kept;
-          other = λ j n. ap (filter (is_by j)) b.own ∙ stop_dropped j b.at b.hand b.before ∙ p.other j n;
+          kept = subst (λ l. AreMarksAt l p.entries) (sym (ap (filter (is_by k)) b.is.own ∙ stop_dropped k b.is.at b.is.hand b.is.before)) p.kept;
+          other = λ j n. ap (filter (is_by j)) b.is.own ∙ stop_dropped j b.is.at b.is.hand b.is.before ∙ p.other j n;
           walks = p.walks;
           numbers = p.numbers;
           count = p.count;
         };
+        stuck = b.stuck;
         whole = λ none. absurd (let bad : Some e ≡ None = sym is ∙ none in cc);
       }
 
@@ -70,6 +72,7 @@ module _ {F : Type 0} (k : ℕ) (events : List Event) (old new : BearerOf F) whe
   by_stop None is m w = record {
     left = [];
     did = part_of_did k old.number (map handle events) [] new.pass.own new.pass.seen new.lines.items new.number new.drawer (w.did is);
+    stuck = tt;
     whole = λ none. refl;
   }
   by_stop (Some S.Closed) is m w = of_broke S.Closed is (w.broke S.Closed is)
@@ -145,9 +148,10 @@ module _ {F : Type 0} (old new : NodeView F) (d e : DrawerView) (events : List (
   pub entries_at : (k : ℕ) (b : BearerOf F) (lt : k < length w.bearers) → of_bearer k part.entries ≡ (part_at k b lt).did.entries
   entries_at k b lt =
       let p = (part_at k b lt).did in
-      entries_of_bearer k (added (node_marks old) (node_marks new)) p.entries
-      (w.kept (is_by k) (marks_at p.entries)
-      (kept_at (is_by k) (suc k) lists [] (marks_at p.entries) (omega (arith, lt, lists_long)) (ap (filter (is_by k)) (index_map own_of w.bearers k b [] lt) ∙ p.kept) (others k b)))
+      let mine = filter (is_by k) (own_of (slice_index_or w.bearers k b)) in
+      let all : filter (is_by k) (added (node_marks old) (node_marks new)) ≡ mine =
+      w.kept (is_by k) mine (kept_at (is_by k) (suc k) lists [] mine (omega (arith, lt, lists_long)) (ap (filter (is_by k)) (index_map own_of w.bearers k b [] lt)) (others k b)) in
+      entries_of_bearer k (added (node_marks old) (node_marks new)) p.entries (subst (λ l. AreMarksAt l p.entries) (sym all) p.kept)
 
   -- past the last bearer there is nothing
   past : (bs : List (BearerOf F)) → w.bearers ≡ bs → (k : ℕ) → length w.bearers ≤ k → (j : ℕ) → j < length lists → j ≢ 0 → filter (is_by k) (slice_index_or lists j []) ≡ []
@@ -159,7 +163,8 @@ module _ {F : Type 0} (old new : NodeView F) (d e : DrawerView) (events : List (
 
   entries_past : (k : ℕ) → length w.bearers ≤ k → of_bearer k part.entries ≡ []
   entries_past k le =
-      entries_of_bearer k (added (node_marks old) (node_marks new)) [] (w.kept (is_by k) [] (kept_at (is_by k) 0 lists [] [] (omega (arith, lists_long)) refl (past w.bearers refl k le)))
+      let none : filter (is_by k) (added (node_marks old) (node_marks new)) ≡ [] = w.kept (is_by k) [] (kept_at (is_by k) 0 lists [] [] (omega (arith, lists_long)) refl (past w.bearers refl k le)) in
+      entries_of_bearer k (added (node_marks old) (node_marks new)) [] (subst (λ l. AreMarksAt l []) (sym none) tt)
 
   sends_at : (k : ℕ) (b : BearerOf F) → k < length w.bearers → list_at part.sends k ≡ (slice_index_or w.bearers k b).lines.items
   sends_at k b lt = list_at_map lines_of dones k (done_of b) (omega (arith, lt, dones_long)) ∙ ap lines_of (done_at k b lt)
@@ -171,6 +176,7 @@ module _ {F : Type 0} (old new : NodeView F) (d e : DrawerView) (events : List (
         left = p.left;
         does = subst (λ es. Walks (map handle (list_at events k)) es (list_at part.sends k) p.left) (sym (entries_at k b lt))
             (subst (λ ls. Walks (map handle (list_at events k)) p.did.entries ls p.left) (sym (sends_at k b lt)) p.did.walks);
+        stuck = p.stuck;
         all = λ through. p.whole (sym (ap (λ x. x.stop) (done_at k b lt)) ∙ through k (done_of b) (omega (arith, lt, dones_long)));
       }
 
@@ -181,6 +187,7 @@ module _ {F : Type 0} (old new : NodeView F) (d e : DrawerView) (events : List (
         does = subst (λ evs. Walks (map handle evs) (of_bearer k part.entries) (list_at part.sends k) []) (sym (list_at_past events k (omega (arith, le, many, w.long, few))))
             (subst (λ es. Walks [] es (list_at part.sends k) []) (sym (entries_past k le))
             (subst (λ ls. Walks [] [] ls []) (sym (list_at_past part.sends k (omega (arith, le, length-map dones lines_of, dones_long)))) stops));
+        stuck = tt;
         all = λ through. refl;
       }
 

@@ -5,7 +5,7 @@ use Rattle.std.specs.Option.{option_map_or}
 use Rattle.mesh_types.specs.declared.events.Event.{Event}
 use Rattle.mesh_types.specs.declared.history.Sent.{Sent}
 use Rattle.machine_contract.specs.declared.answers.Stop.TheVariants as S
-use Rattle.run_definitions.specs.Order.{Does, Part, Placed, Task, of_bearer}
+use Rattle.run_definitions.specs.Order.{Does, IsStuck, Part, Placed, Task, of_bearer}
 use Rattle.turn_lock.specs.Entries.{added}
 use Rattle.locked_node.specs.declared.marks.Mark.{Mark}
 use Rattle.locked_node.specs.declared.marks.Mark.TheVariants as M
@@ -14,12 +14,12 @@ use Rattle.node_phase.specs.declared.bearers.Done.{Done}
 
 -- whether an entry of the lock is an entry of bearer k
 abbrev pub is_of : ℕ → Mark → Bool
-is_of k (M.Handled e) = e.bearer == k
+is_of k (M.Handled e move) = e.bearer == k
 is_of k (M.Stopped hand) = false
 
 -- the entries of the history among those of the lock, with their places
 abbrev pub placed_at : ℕ → Mark → Option Placed
-placed_at at (M.Handled e) = Some (record { at = at; entry = e })
+placed_at at (M.Handled e move) = Some (record { at = at; entry = e })
 placed_at at (M.Stopped hand) = None
 
 abbrev pub placed_of : List (ℕ × Mark) → List Placed
@@ -39,10 +39,11 @@ AreThrough dones = All (λ x. x.stop ≡ None) dones
 abbrev pub HadMemory : List Done → Type 0
 HadMemory dones = All (λ x. x.stop ≢ Some S.Memory) dones
 
--- bearer k does what it has in the phase, or leaves some of it where a bearer stopped
+-- bearer k does what it has in the phase; where a bearer stopped, as far as it comes without the machine
 pub record DoesPart (events : List (List Event)) (part : Part) (dones : List Done) (k : ℕ) : Type 0 where
   pub left : List Task
   pub does : Does events part k left
+  pub stuck : IsStuck left
   pub all : AreThrough dones → left ≡ []
 
 -- its entries are numbered from the one behind its last before

@@ -10,7 +10,7 @@ ghost use Rattle.node_phase.specs.Part.{DoesPart, HadMemory, NumbersPart, part_o
 ghost use Rattle.node_phase.specs.Worked.{WasPhase};
 
 /// The entries behind those of before, and the bearers' lines, are a part of a life: each bearer does what it has, all of it where none
-/// stopped; and its entries are numbered on. No bearer stopped for want of memory.
+/// stopped, and else as far as it comes without the machine; and its entries are numbered on. No bearer stopped for want of memory.
 pub fn part_law<F>()
     ensures does { (old new : NodeView F) (d e : DrawerView) (events : List (List Event)) (counts : List ℕ)
         (dones : List Done)

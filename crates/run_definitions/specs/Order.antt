@@ -1,5 +1,5 @@
 -- The order in which a bearer does its work: the entries of its events, and the lines of their jobs.
-use Rattle.std.specs.Prelude.{◌≡◌, ℕ, ◌+◌, ◌==◌, Bool, true, false, IsTrue, List, [], ◌∷◌, ◌++◌, map, filter, Option, Some, None}
+use Rattle.std.specs.Prelude.{◌≡◌, ℕ, ◌+◌, ◌==◌, Bool, true, false, IsTrue, List, [], ◌∷◌, ◌++◌, map, filter, Option, Some, None, ⊤}
 use Rattle.std.specs.List.{filter_map, flat_map}
 use Rattle.mesh_types.specs.declared.events.Event.{Event}
 use Rattle.mesh_types.specs.declared.events.Event.TheVariants as E
@@ -9,7 +9,7 @@ use Rattle.mesh_types.specs.declared.jobs.Job.{Job}
 use Rattle.mesh_types.specs.declared.lines.Outcome.{Outcome}
 use Rattle.mesh_types.specs.declared.report.End.{End}
 use Rattle.mesh_types.specs.declared.report.End.TheVariants as F
-use Rattle.run_definitions.specs.Lines.{Shows, after_line}
+use Rattle.run_definitions.specs.Lines.{Shows, after_line, is_drawing}
 use Rattle.report_definitions.specs.Record.{Life, list_at}
 
 -- whether an event comes from outside, and doesn't follow a line
@@ -45,6 +45,18 @@ write_tasks i j event (job ∷ jobs) = write i j event job ∷ write_tasks i (j 
 
 abbrev pub job_tasks : Placed → List Task
 job_tasks p = write_tasks p.at 0 p.entry.event p.entry.jobs
+
+-- Whether a task needs the machine: for an event, which is to be handled; or for the line of a job that draws a pair, since the mark may
+-- have to be raised for it. The line of any other job needs nothing more.
+abbrev pub needs_machine : Task → Bool
+needs_machine (handle event) = true
+needs_machine (follow event) = true
+needs_machine (write i j event job) = is_drawing job
+
+-- nothing is left to do, or what is next needs the machine
+abbrev pub IsStuck : List Task → Type 0
+IsStuck [] = ⊤
+IsStuck (task ∷ left) = needs_machine task ≡ true
 
 -- With these tasks a bearer makes these entries and these lines, each in its order, and the last tasks are left. The jobs of an entry
 -- come before all else, and so does the event that follows a line.
@@ -89,8 +101,15 @@ of_bearer k ps = filter (λ p. p.entry.bearer == k) ps
 abbrev pub Does : List (List Event) → Part → ℕ → List Task → Type 0
 Does events part k left = Walks (map handle (list_at events k)) (of_bearer k part.entries) (list_at part.sends k) left
 
+-- In a part a bearer does what it has in the phase as far as it comes without the machine: it does all, or what it left begins with what
+-- needs the machine.
+pub record BreaksOff (events : List (List Event)) (part : Part) (k : ℕ) : Type 0 where
+  pub left : List Task
+  pub does : Does events part k left
+  pub stuck : IsStuck left
+
 -- The parts of the phases: in each all bearers do all that they have. In a life that was cut the last part may be broken off, where each
--- bearer may leave something, and then nothing is done in a later phase.
+-- bearer does all but what it needs the machine for and what is behind that, and then nothing is done in a later phase.
 pub data PartsOf : Bool → List (List (List Event)) → List Part → Type 0 where
   ends : {is_cut : Bool} → PartsOf is_cut [] []
   whole : {is_cut : Bool} {events : List (List Event)} {more : List (List (List Event))} {part : Part}
@@ -99,7 +118,7 @@ pub data PartsOf : Bool → List (List (List Event)) → List Part → Type 0 wh
       → PartsOf is_cut more parts
       → PartsOf is_cut (events ∷ more) (part ∷ parts)
   broken : {events : List (List Event)} {more : List (List (List Event))} {part : Part}
-      → ((k : ℕ) → (left : List Task) × Does events part k left)
+      → ((k : ℕ) → BreaksOff events part k)
       → PartsOf true (events ∷ more) (part ∷ [])
 
 abbrev pub is_cut : End → Bool

@@ -60,7 +60,7 @@ parts_lines own entries k (whole {events = events} {part = part} {parts = parts}
     (lines_append own _ _ (does_lines own entries events part k [] (does k) (every_front (EntryFits own entries) part.entries _ h))
     (parts_lines own entries k more (every_back (EntryFits own entries) part.entries _ h)))
 parts_lines own entries k (broken {events = events} {part = part} does) h =
-    rw append-nil (does_lines own entries events part k (does k).0 (does k).1 (every_front (EntryFits own entries) part.entries _ h))
+    rw append-nil (does_lines own entries events part k (does k).left (does k).does (every_front (EntryFits own entries) part.entries _ h))
 
 -- The entries at their places.
 

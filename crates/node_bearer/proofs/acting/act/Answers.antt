@@ -14,7 +14,7 @@ returns-clause-did g c = λ first tasks rest task is h.
 
 pub returns-clause-entry : goal.returns-clause-entry
 returns-clause-entry g c =
-    if_ok c.handle_one-result.result (λ a. subst (λ ms. HasEntry ms a.at c.args.event.now a.jobs) (sym (ap (λ p. p.seen) c.leave.ensures.frame))) c.handle_one-result.ensures.entry
+    if_ok c.handle_one-result.result (λ a. subst (λ ms. HasEntry ms a.at c.args.event.now a.jobs c.handle_one-result.new.b.drawer.informed) (sym (ap (λ p. p.seen) c.leave.ensures.frame))) c.handle_one-result.ensures.entry
 
 pub returns-clause-stopped : goal.returns-clause-stopped
 returns-clause-stopped g c = λ first tasks rest task is h.

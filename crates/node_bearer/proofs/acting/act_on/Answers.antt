@@ -17,7 +17,7 @@ returns-clause-did g c = λ first tasks rest e h.
 
 pub returns-clause-entry : goal.returns-clause-entry
 returns-clause-entry g c = λ e.
-    if_ok c.handle_all-result.result (λ a. subst (λ ms. HasEntry ms a.answered.at (slice_index_or c.args.events.now a.last e) a.answered.jobs) (sym (ap (λ p. p.seen) c.leave.ensures.frame))) (c.handle_all-result.ensures.entry e)
+    if_ok c.handle_all-result.result (λ a. subst (λ ms. HasEntry ms a.answered.at (slice_index_or c.args.events.now a.last e) a.answered.jobs c.handle_all-result.new.b.drawer.informed) (sym (ap (λ p. p.seen) c.leave.ensures.frame))) (c.handle_all-result.ensures.entry e)
 
 pub returns-clause-stopped : goal.returns-clause-stopped
 returns-clause-stopped g c = λ first tasks rest h.

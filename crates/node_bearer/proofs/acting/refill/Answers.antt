@@ -1,5 +1,5 @@
 use Rattle.locked_node.specs.Node.{node_marks}
-use Rattle.node_bearer.proofs.Turning.{asked_front, broke_left, did_left, did_visited, entered, front_by, if_err, on_ok, on_stop, stopped_bare}
+use Rattle.node_bearer.proofs.Turning.{asked_front, did_left, did_visited, entered, front_by, if_err, off_left, on_ok, on_stop, stopped_bare}
 use Rattle.node_bearer.proofs.acting.refill.Goals as goal
 
 -- it has seen the job that it draws for, and so the node has it
@@ -21,5 +21,5 @@ returns-clause-stopped g c = λ k first tasks rest h.
     let node = c.enter-node.result in
     let inside = entered k first tasks rest c.args.b.now c.enter-node.new.p node c.enter-node.ensures.seen c.enter-node.ensures.frame h in
     let front = front_by c.args.b.now.pass c.enter-node.new.p (node_marks node) c.enter-node.ensures.frame in
-    if_err c.refill-result.result (λ stop. on_stop stop (λ s. broke_left k first tasks b c.leave.new.p c.refill-result.new.self c.leave.ensures.own c.leave.ensures.frame
+    if_err c.refill-result.result (λ stop. on_stop stop (λ s. off_left k first tasks b c.leave.new.p c.refill-result.new.self c.leave.ensures.own c.leave.ensures.frame rest
     (stopped_bare k first tasks b node c.refill-result.new.self front rest inside s))) c.refill-result.ensures.stopped

@@ -1,8 +1,9 @@
-use Rattle.std.proofs.Common.{◌∙◌, ◌++◌, ◌∷◌, ap, append_assoc, subst, sym}
+use Rattle.std.proofs.Common.{◌∙◌, ◌++◌, ◌∷◌, [], ap, append_assoc, refl, subst, sym}
 use Rattle.seq_word.specs.Seen.{AfterLost, DrawerView, HasCause}
 use Rattle.seq_word.specs.declared.miss.Miss.TheVariants as missed
 use Rattle.node_bearer.proofs.Doing.{did_looked, saw_end}
-use Rattle.node_bearer.proofs.Turning.{asked_on, stops}
+use Rattle.turn_lock.specs.Entries.{IsPrefix}
+use Rattle.node_bearer.proofs.Turning.{asked_on, front_more, on_still, stops}
 use Rattle.node_bearer.proofs.drawing.draw.Goals as goal
 
 pub returns-in-Err-Some-Spent-clause-did : goal.returns-in-Err-Some-Spent-clause-did
@@ -31,6 +32,15 @@ raise-requires-clause-reached g c κs lives =
 pub raise-requires-clause-asked : goal.raise-requires-clause-asked
 raise-requires-clause-asked g c κs lives = asked_on c.args.b.now c.loop.b c.loop.invariant.on c.requires.asked
 
+pub loop-init : goal.loop-init
+loop-init g c = record {
+  rider = c.requires.rider;
+  on = on_still c.args.b.now;
+  dry = ([], refl);
+  frame = refl;
+  did = λ k first tasks rest h. h;
+}
+
 pub loop-preserved : goal.loop-preserved
 loop-preserved g c =
     let b = c.loop.b in
@@ -44,6 +54,7 @@ loop-preserved g c =
         more = c.raise.ensures.on.more ∙ ap (λ l. l ++ c.raise.ensures.on.rest) was.on.more ∙ append_assoc _ was.on.rest c.raise.ensures.on.rest;
         noted = c.raise.ensures.on.noted ∙ e.err.noted ∙ was.on.noted;
         known = c.raise.ensures.on.known ∙ e.err.known ∙ was.on.known;
+        told = front_more c.args.b.now.drawer.informed b.drawer.informed c.raise.new.b.drawer.informed was.on.told (subst (λ x. IsPrefix x c.raise.new.b.drawer.informed) e.err.informed c.raise.ensures.on.told);
         parts = c.raise.ensures.on.parts ∙ e.err.parts ∙ was.on.parts;
         stop = c.raise.ensures.on.stop ∙ was.on.stop;
       };

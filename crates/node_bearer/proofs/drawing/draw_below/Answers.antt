@@ -14,6 +14,7 @@ loop-preserved c =
         raised = lost.err.raised ∙ was.raised;
         noted = lost.err.noted ∙ was.noted;
         known = lost.err.known ∙ was.known;
+        informed = lost.err.informed ∙ was.informed;
         parts = lost.err.parts ∙ was.parts;
       };
       looks = prefix_trans before.looks lost.looks;

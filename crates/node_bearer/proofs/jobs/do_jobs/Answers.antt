@@ -2,7 +2,7 @@ use Rattle.std.proofs.Common.{◌+◌, ◌∙◌, ◌∷◌, ◌++◌, ap, drop,
 use Rattle.std.proofs.lemmas.List.{at_drop_more}
 use Rattle.run_definitions.specs.Order.{write, write_tasks}
 use Rattle.node_bearer.specs.Did.{DidBy}
-use Rattle.node_bearer.proofs.Turning.{goes_on, stops}
+use Rattle.node_bearer.proofs.Turning.{goes_on, on_still, stops}
 use Rattle.node_bearer.proofs.jobs.do_jobs.Goals as goal
 
 pub do_following-requires-clause-event : goal.do_following-requires-clause-event
@@ -32,6 +32,13 @@ returns-in_err-do_following-clause-stopped g c = λ first tasks rest h.
 pub returns-in_err-do_following-clause-on : goal.returns-in_err-do_following-clause-on
 returns-in_err-do_following-clause-on g c =
     goes_on c.args.b.now c.loop-j.b c.do_following.new.b c.loop-j.invariant.on (goes_on c.loop-j.b c.do_job.new.b c.do_following.new.b c.do_job.ensures.on c.do_following.ensures.on)
+
+pub loop-j-init : goal.loop-j-init
+loop-j-init g c = record {
+  rider = c.requires.rider;
+  on = on_still c.args.b.now;
+  did = λ first tasks rest h. h;
+}
 
 pub loop-j-preserved : goal.loop-j-preserved
 loop-j-preserved g c = record {

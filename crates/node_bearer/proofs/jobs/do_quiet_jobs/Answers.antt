@@ -4,7 +4,7 @@ use Rattle.run_definitions.specs.Order.{follow, write, write_tasks}
 use Rattle.node_bearer.specs.Did.{DidBy}
 use Rattle.std.specs.Option.{option_to_list}
 use Rattle.machine_contract.specs.Ranges.{IsQuiet}
-use Rattle.node_bearer.proofs.Turning.{goes_on, stops}
+use Rattle.node_bearer.proofs.Turning.{goes_on, on_still, stops}
 use Rattle.node_bearer.proofs.jobs.do_quiet_jobs.Goals as goal
 
 pub returns-in_err-do_job-clause-stopped : goal.returns-in_err-do_job-clause-stopped
@@ -15,6 +15,13 @@ returns-in_err-do_job-clause-stopped g c = λ k first tasks rest h.
     let later = write_tasks c.args.at (j + 1) event (drop (j + 1) jobs) ++ rest in
     let left = at_drop_more (λ js. write_tasks c.args.at j event js ++ rest) jobs j c.index-jobs-j.result c.loop-j-test.true ∙ ap (λ x. write c.args.at j event x ∷ later) (sym c.index-jobs-j.is) in
     stops _ c.from_residual.result c.in_err-do_job.field-0.0 c.from_residual.ensures.1 (c.in_err-do_job.ensures.stopped k first tasks later (subst (λ ts. DidBy k first tasks ts c.loop-j.b) left (c.loop-j.invariant.did k first tasks rest h)))
+
+pub loop-j-init : goal.loop-j-init
+loop-j-init g c = record {
+  rider = c.requires.rider;
+  on = on_still c.args.b.now;
+  did = λ k first tasks rest h. h;
+}
 
 pub loop-j-preserved : goal.loop-j-preserved
 loop-j-preserved g c = record {

@@ -12,8 +12,8 @@ pub do_jobs-done-requires-clause-entry : goal.do_jobs-done-requires-clause-entry
 do_jobs-done-requires-clause-entry g c κs lives =
     let a = c.in_ok-acted.acted.answered in
     let event = c.index-events-last.result in
-    subst (λ js. HasEntry c.act_on.new.b.pass.seen a.at event js) (sym c.as_slice-jobs.ensures.value)
-    (subst (λ x. HasEntry c.act_on.new.b.pass.seen a.at x a.jobs) (sym c.index-events-last.is) (c.in_ok-acted.ensures.entry event))
+    subst (λ js. HasEntry c.act_on.new.b.pass.seen a.at event js c.act_on.new.b.drawer.informed) (sym c.as_slice-jobs.ensures.value)
+    (subst (λ x. HasEntry c.act_on.new.b.pass.seen a.at x a.jobs c.act_on.new.b.drawer.informed) (sym c.index-events-last.is) (c.in_ok-acted.ensures.entry event))
 
 pub do_jobs-done-requires-clause-jobs : goal.do_jobs-done-requires-clause-jobs
 do_jobs-done-requires-clause-jobs g c κs lives =
