@@ -17,12 +17,13 @@ use Rattle.hearing_host.specs.declared.ends.KeptLogs.{KeptLogs}
 abbrev pub heard : List ℕ → List (List Event)
 heard pdu = (E.Net pdu ∷ []) ∷ []
 
--- A phase is the first of the PDUs that are left, and takes it off; at the end none is left. A failure says nothing.
+-- A phase, of one bearer, is the first of the PDUs that are left, and takes it off; at the end none is left. A failure says nothing.
 abbrev pub heard_steps : SourceSteps HeardPdus
 heard_steps = record {
-  gives = λ old events new. (pdu : List ℕ) × (old.left.items ≡ pdu ∷ new.left.items) × (events ≡ heard pdu);
+  gives = λ bearers elements due old events new.
+      (bearers ≡ 1) × ((pdu : List ℕ) × (old.left.items ≡ pdu ∷ new.left.items) × (events ≡ heard pdu));
   ends = λ old new. old.left.items ≡ [];
-  fails = λ bearers elements old new. ⊤;
+  fails = λ bearers elements due old new. ⊤;
 }
 
 abbrev pub dids : KeptLogs → List PhaseDid

@@ -10,13 +10,21 @@ use Rattle.live_lines.specs.declared.lines.LineStop.{LineStop}
 use Rattle.live_lines.specs.declared.lines.LineStop.TheVariants as L
 use Rattle.live_lines.specs.declared.line_phases.LinePhases.{LinePhases}
 
+-- they are of a node with so many bearers and elements
+abbrev pub IsOf : {S E : Type 0} → ℕ → ℕ → LinePhases S E → Type 0
+IsOf bearers elements old = (bearers ≡ old.lines.bearers) × (elements ≡ old.lines.elements)
+
 -- they are of a node with other bearers or elements
 abbrev pub IsOfOther : {S E : Type 0} → ℕ → ℕ → LinePhases S E → Type 0
-IsOfOther bearers elements old = (bearers ≡ old.lines.bearers) × (elements ≡ old.lines.elements) → ⊥
+IsOfOther bearers elements old = IsOf bearers elements old → ⊥
 
 -- it is of the same node, and didn't fail
 abbrev pub IsLive : {S E : Type 0} → LinePhases S E → LinePhases S E → Type 0
 IsLive old new = (old.lines.why ≡ None) × IsSameNode old.lines new.lines
+
+-- it was asked for a phase of the node that it is of, and didn't fail
+abbrev pub IsLiveFor : {S E : Type 0} → ℕ → ℕ → LinePhases S E → LinePhases S E → Type 0
+IsLiveFor bearers elements old new = IsOf bearers elements old × IsLive old new
 
 module _ {S E : Type 0} (clocked : Bool) (left : S → Option (List ℕ)) (source_faults : S → ℕ) (took : E → Option (List ℕ))
     (pieces : E → Option (List (List ℕ))) (sink_faults : E → ℕ) where
@@ -65,7 +73,7 @@ module _ {S E : Type 0} (clocked : Bool) (left : S → Option (List ℕ)) (sourc
 
   abbrev pub line_steps : SourceSteps (LinePhases S E)
   line_steps = record {
-    gives = λ old lists new. IsLive old new × Gives old lists new;
+    gives = λ bearers elements due old lists new. IsLiveFor bearers elements old new × Gives old lists new;
     ends = λ old new. IsLive old new × ComesToEnd old new;
-    fails = λ bearers elements old new. FailsBehind bearers elements old.lines.why old new;
+    fails = λ bearers elements due old new. FailsBehind bearers elements old.lines.why old new;
   }

@@ -2,6 +2,7 @@
 use Rattle.std.proofs.Common.{◌≡◌, ◌∙◌, ℕ, Bool, List, [], ◌∷◌, ◌++◌, Option, None, Some, false, inl, inr, refl, sym, ap, subst}
 use Rattle.flash_model.specs.Chip.{Chip}
 use Rattle.event_definitions.specs.Role.{Role}
+use Rattle.mesh_types.specs.declared.history.Entry.{Entry}
 use Rattle.mesh_types.specs.declared.report.End.TheVariants as Z
 use Rattle.mesh_types.specs.declared.report.Opened.{Opened}
 use Rattle.mesh_types.specs.declared.report.Opened.TheVariants as W
@@ -12,7 +13,7 @@ use Rattle.machine_contract.specs.View.{MachineView}
 use Rattle.record_types.specs.declared.records.StoreRecord.{StoreRecord}
 use Rattle.store_definitions.specs.Config.{config_of}
 use Rattle.mesh_node.specs.Lived.{FellShort, LivedOn}
-use Rattle.mesh_node.specs.Told.{BySteps, FailedAtLast, PhaseDid, SinkSteps}
+use Rattle.mesh_node.specs.Told.{BySteps, FailedAtLast, GivesEach, PhaseDid, SinkSteps}
 use Rattle.mesh_node.specs.declared.told.LastStep.{LastStep}
 use Rattle.mesh_node.specs.declared.told.LastStep.TheVariants as T
 use Rattle.report_writer.specs.Writing.{SinkView, Written, WrittenFront, view_of}
@@ -40,7 +41,7 @@ use Rattle.live_node.proofs.Said as Said
 
 module _ {S E K F : Type 0} (clocked : Bool) (left : S → Option (List ℕ)) (source_faults : S → ℕ) (took : E → Option (List ℕ)) (told_pieces : E → Option (List (List ℕ))) (errors_faults : E → ℕ)
     (held : K → Option (List ℕ)) (pieces : K → Option (List (List ℕ))) (faults : K → ℕ)
-    (Stood : List StoreRecord → MachineView → Type 0) (role : Role) (image : List ℕ → Type 0) (sinks : SinkSteps (LiveReport K)) (bearers : ℕ) (start new : Chip) (ready left_over : F)
+    (Stood : List StoreRecord → MachineView → Type 0) (role : Role) (image : List ℕ → Type 0) (IsDue : List Entry → ℕ → Type 0) (sinks : SinkSteps (LiveReport K)) (bearers : ℕ) (start new : Chip) (ready left_over : F)
     (lines lines' : LinePhases S E) (report report' : LiveReport K) (sink : K) (refills : ℕ) (drawn : ClosedView) (closed : Bool) where
   abbrev at : LinePhases S E → LinesAt
   at l = Said.at clocked left source_faults took told_pieces errors_faults l
@@ -52,7 +53,7 @@ module _ {S E K F : Type 0} (clocked : Bool) (left : S → Option (List ℕ)) (s
   view k = view_of held pieces k
 
   abbrev Lived : LastStep → Type 0
-  Lived last = LivedOn Stood role image (Said.line_steps clocked left source_faults took told_pieces errors_faults) sinks lines lines' report report' bearers start new ready left_over refills drawn closed last
+  Lived last = LivedOn Stood role image IsDue (Said.line_steps clocked left source_faults took told_pieces errors_faults) sinks lines lines' report report' bearers start new ready left_over refills drawn closed last
 
   module _ (from : StreamsAt) (before : SinkView) (opened : Opened) (whole : AllIsWritten) (first : Written (opened_line 1 opened ∷ []) before (view report.sink)) (begins : at lines ≡ begun from) (unfailed_yet : lines.lines.why ≡ None) (unused : IsFrontOf lines.front []) (only : left_over ≡ ready → MigratesOnly start new) where
     abbrev to : StreamsAt
@@ -90,6 +91,7 @@ module _ {S E K F : Type 0} (clocked : Bool) (left : S → Option (List ℕ)) (s
         each = lived.each;
         all = lived.all;
         paid = lived.paid;
+        from_moves = lived.from;
         life = lived.life;
         wrote = subst (λ o. tells o lived.did before (view sink)) is wrote;
         node = lived.node;
@@ -100,42 +102,42 @@ module _ {S E K F : Type 0} (clocked : Bool) (left : S → Option (List ℕ)) (s
         writes = λ none. only (lived.idle none);
       }
 
-      abbrev Gave : LinePhases S E → Type 0
-      Gave mid = BySteps (Said.line_steps clocked left source_faults took told_pieces errors_faults).gives lines lived.phases mid
+      abbrev Gave : List ℕ → LinePhases S E → Type 0
+      Gave dues mid = GivesEach (Said.line_steps clocked left source_faults took told_pieces errors_faults) bearers (config_of lived.over).elements lines dues lived.phases mid
 
       -- the source came to its end
-      ended : (mid : LinePhases S E) → Gave mid
+      ended : (dues : List ℕ) (mid : LinePhases S E) → Gave dues mid
           → ((used : List ℕ) → IsFrontOf mid.front used → Ends mid.lines.bearers mid.lines.elements (behind used mid) (at lines'))
           → (tells : Tells) → tells opened lived.did before (view sink)
           → LivedBy Stood role image report.hex bearers clocked start new from to before (view sink) closed at_end tells
-      ended mid gave ends tells wrote =
-          let said = Said.said_all clocked left source_faults took told_pieces errors_faults [] lines mid lived.phases unused gave in
+      ended dues mid gave ends tells wrote =
+          let said = Said.said_all clocked left source_faults took told_pieces errors_faults bearers (config_of lived.over).elements [] lines mid dues lived.phases unused gave in
           let here = behind said.used mid in
           build at_end tells here (at lines') refl said.said
           (subst (λ e. Ends lines.lines.bearers e here (at lines')) said.elements
           (subst (λ b. Ends b mid.lines.elements here (at lines')) said.bearers (ends said.used said.is))) wrote
 
       -- it failed, for this cause
-      gave_up : (mid : LinePhases S E) → Gave mid
+      gave_up : (dues : List ℕ) (mid : LinePhases S E) → Gave dues mid
           → (why : LineStop) → ((used : List ℕ) → IsFrontOf mid.front used → Fails mid.lines.bearers mid.lines.elements clocked why (behind used mid) (at lines'))
           → (tells : Tells) → tells opened lived.did before (view sink)
           → (goes : GoesOn)
           → ((m : LinesAt) → Fails lines.lines.bearers lines.lines.elements clocked why m (at lines') → goes lines.lines.bearers lines.lines.elements clocked m (at lines'))
           → LivedBy Stood role image report.hex bearers clocked start new from to before (view sink) closed goes tells
-      gave_up mid gave why fails tells wrote goes is_so =
-          let said = Said.said_all clocked left source_faults took told_pieces errors_faults [] lines mid lived.phases unused gave in
+      gave_up dues mid gave why fails tells wrote goes is_so =
+          let said = Said.said_all clocked left source_faults took told_pieces errors_faults bearers (config_of lived.over).elements [] lines mid dues lived.phases unused gave in
           let here = behind said.used mid in
           build goes tells here (at lines') refl said.said
           (is_so here (subst (λ e. Fails lines.lines.bearers e clocked why here (at lines')) said.elements
           (subst (λ b. Fails b mid.lines.elements clocked why here (at lines')) said.bearers (fails said.used said.is)))) wrote
 
       -- it wasn't asked any more
-      asked : Gave lines'
+      asked : Gave lived.dues lines'
           → (tells : Tells) → tells opened lived.did before (view sink)
           → (goes : GoesOn) → ((m : LinesAt) → goes lines.lines.bearers lines.lines.elements clocked m m)
           → LivedBy Stood role image report.hex bearers clocked start new from to before (view sink) closed goes tells
       asked gave tells wrote goes is_so =
-          let said = Said.said_all clocked left source_faults took told_pieces errors_faults [] lines lines' lived.phases unused gave in
+          let said = Said.said_all clocked left source_faults took told_pieces errors_faults bearers (config_of lived.over).elements [] lines lines' lived.dues lived.phases unused gave in
           let here = behind said.used lines' in
           build goes tells here here refl said.said (is_so here) wrote
 
@@ -154,7 +156,7 @@ module _ {S E K F : Type 0} (clocked : Bool) (left : S → Option (List ℕ)) (s
     end_broken lived is el many wrote front =
         let (mid, gave, ends) = lived.gave in
         subst (λ b. Shown b at_end (broken_at_end report.hex)) lived.end
-        (ended T.Ended lived is el many mid gave ends.1 (broken_at_end report.hex)
+        (ended T.Ended lived is el many lived.dues mid gave ends.1 (broken_at_end report.hex)
         (view report'.sink, open_written lived.did (view report'.sink) wrote, front))
 
     behind_end : (lived : Lived T.Ended) → opened ≡ W.On (config_of lived.over).iv (config_of lived.over).mark → lines.lines.elements ≡ (config_of lived.over).elements → lines.lines.bearers ≡ bearers
@@ -163,7 +165,7 @@ module _ {S E K F : Type 0} (clocked : Bool) (left : S → Option (List ℕ)) (s
     behind_end lived is el many wrote V.Done h =
         let (mid, gave, ends) = lived.gave in
         subst (λ b. Shown b at_end (told_ended report.hex)) lived.end
-        (ended T.Ended lived is el many mid gave ends.1 (told_ended report.hex)
+        (ended T.Ended lived is el many lived.dues mid gave ends.1 (told_ended report.hex)
         (whole report.hex 1 opened lived.did Z.Ended before (view report.sink) (view report'.sink) (view sink) first wrote.written h.0))
     behind_end lived is el many wrote V.WriteFault h = inr (inl (lived.end, end_broken lived is el many wrote.written h.0))
     behind_end lived is el many wrote V.Memory h =
@@ -171,7 +173,7 @@ module _ {S E K F : Type 0} (clocked : Bool) (left : S → Option (List ℕ)) (s
         inr (inl (inl (
           lived.end,
           subst (λ b. Shown b at_end (told_open report.hex)) lived.end
-              (ended T.Ended lived is el many mid gave ends.1 (told_open report.hex)
+              (ended T.Ended lived is el many lived.dues mid gave ends.1 (told_open report.hex)
               (open_written lived.did (view sink) (subst (Written (phases_lines report.hex lived.did) (view report.sink)) (sym h.0) wrote.written))),
         )))
     behind_end lived is el many wrote V.ReadFault h = absurd h
@@ -186,20 +188,20 @@ module _ {S E K F : Type 0} (clocked : Bool) (left : S → Option (List ℕ)) (s
 
     behind_failure : (lived : Lived T.Unread) → opened ≡ W.On (config_of lived.over).iv (config_of lived.over).mark → lines.lines.elements ≡ (config_of lived.over).elements → lines.lines.bearers ≡ bearers
         → Written (phases_lines report.hex lived.did) (view report.sink) (view sink)
-        → (mid : LinePhases S E) → BySteps (Said.line_steps clocked left source_faults took told_pieces errors_faults).gives lines lived.phases mid
+        → (dues : List ℕ) (mid : LinePhases S E) → GivesEach (Said.line_steps clocked left source_faults took told_pieces errors_faults) bearers (config_of lived.over).elements lines dues lived.phases mid
         → (why : LineStop) → FailsAs clocked left source_faults took told_pieces errors_faults bearers (config_of lived.over).elements why mid lines' → Over (line_status why)
-    behind_failure lived is el many wrote mid gave L.Source fails =
+    behind_failure lived is el many wrote dues mid gave L.Source fails =
         subst (λ b. Shown b (failed L.Source) (told_open report.hex)) lived.end
-        (gave_up T.Unread lived is el many mid gave L.Source fails (told_open report.hex) (open_written lived.did (view sink) wrote) (failed L.Source) (λ m k. k))
-    behind_failure lived is el many wrote mid gave L.Errors fails =
+        (gave_up T.Unread lived is el many dues mid gave L.Source fails (told_open report.hex) (open_written lived.did (view sink) wrote) (failed L.Source) (λ m k. k))
+    behind_failure lived is el many wrote dues mid gave L.Errors fails =
         subst (λ b. Shown b (failed L.Errors) (told_open report.hex)) lived.end
-        (gave_up T.Unread lived is el many mid gave L.Errors fails (told_open report.hex) (open_written lived.did (view sink) wrote) (failed L.Errors) (λ m k. k))
-    behind_failure lived is el many wrote mid gave L.Memory fails =
-        unfed lived (gave_up T.Unread lived is el many mid gave L.Memory fails (told_open report.hex) (open_written lived.did (view sink) wrote) unended (λ m k. (L.Memory, refl, k)))
-    behind_failure lived is el many wrote mid gave L.Endless fails =
-        unfed lived (gave_up T.Unread lived is el many mid gave L.Endless fails (told_open report.hex) (open_written lived.did (view sink) wrote) unended (λ m k. (L.Endless, refl, k)))
-    behind_failure lived is el many wrote mid gave L.OtherNode fails =
-        let said = Said.said_all clocked left source_faults took told_pieces errors_faults [] lines mid lived.phases unused gave in
+        (gave_up T.Unread lived is el many dues mid gave L.Errors fails (told_open report.hex) (open_written lived.did (view sink) wrote) (failed L.Errors) (λ m k. k))
+    behind_failure lived is el many wrote dues mid gave L.Memory fails =
+        unfed lived (gave_up T.Unread lived is el many dues mid gave L.Memory fails (told_open report.hex) (open_written lived.did (view sink) wrote) unended (λ m k. (L.Memory, refl, k)))
+    behind_failure lived is el many wrote dues mid gave L.Endless fails =
+        unfed lived (gave_up T.Unread lived is el many dues mid gave L.Endless fails (told_open report.hex) (open_written lived.did (view sink) wrote) unended (λ m k. (L.Endless, refl, k)))
+    behind_failure lived is el many wrote dues mid gave L.OtherNode fails =
+        let said = Said.said_all clocked left source_faults took told_pieces errors_faults bearers (config_of lived.over).elements [] lines mid dues lived.phases unused gave in
         absurd ((fails said.used said.is).0 (sym (said.bearers ∙ many), sym (said.elements ∙ el)))
 
     behind_cut : (lived : Lived T.Cut) → opened ≡ W.On (config_of lived.over).iv (config_of lived.over).mark → lines.lines.elements ≡ (config_of lived.over).elements → lines.lines.bearers ≡ bearers
@@ -245,11 +247,12 @@ module _ {S E K F : Type 0} (clocked : Bool) (left : S → Option (List ℕ)) (s
     over T.Ended lived is el many wrote failed_at status told up = behind_end lived is el many wrote status (told refl)
     over T.Unread lived is el many wrote failed_at status told up =
         let (same, still) = up (λ e. cc) in
-        let (mid, gave, fails) = lived.gave in
-        let said = Said.said_all clocked left source_faults took told_pieces errors_faults [] lines mid lived.phases unused gave in
-        let (why, f) = subst (λ o. FailsBehind clocked left source_faults took told_pieces errors_faults bearers (config_of lived.over).elements o mid lines') (said.why ∙ unfailed_yet) fails in
+        let asked = lived.gave in
+        let mid = asked.mid in
+        let said = Said.said_all clocked left source_faults took told_pieces errors_faults bearers (config_of lived.over).elements [] lines mid asked.before lived.phases unused asked.gave in
+        let (why, f) = subst (λ o. FailsBehind clocked left source_faults took told_pieces errors_faults bearers (config_of lived.over).elements o mid lines') (said.why ∙ unfailed_yet) asked.failed in
         subst Over (sym (same ∙ ap (λ o. status_behind T.Unread o report'.stopped) f.kept))
-        (behind_failure lived is el many (subst (λ k. Written (phases_lines report.hex lived.did) (view report.sink) (view k)) (sym still) wrote.written) mid gave why f.fails)
+        (behind_failure lived is el many (subst (λ k. Written (phases_lines report.hex lived.did) (view report.sink) (view k)) (sym still) wrote.written) asked.before mid asked.gave why f.fails)
     over T.Cut lived is el many wrote failed_at status told up =
         let (same, still) = up (λ e. cc) in
         subst Over (sym same) (behind_cut lived is el many (subst (λ k. Written (phases_lines report.hex lived.did) (view report.sink) (view k)) (sym still) wrote.written))
@@ -259,11 +262,11 @@ module _ {S E K F : Type 0} (clocked : Bool) (left : S → Option (List ℕ)) (s
         (behind_untold lived is el many (failed_at lived.did lived.took) still wrote.why wrote.stopped)
 
     -- where memory ran out
-    pub short : (fell : FellShort role (Said.line_steps clocked left source_faults took told_pieces errors_faults) sinks lines lines' report report' start) → opened ≡ W.On (config_of fell.over).iv (config_of fell.over).mark
+    pub short : (fell : FellShort role IsDue (Said.line_steps clocked left source_faults took told_pieces errors_faults) sinks lines lines' report report' bearers start) → opened ≡ W.On (config_of fell.over).iv (config_of fell.over).mark
         → lines.lines.elements ≡ (config_of fell.over).elements → lines.lines.bearers ≡ bearers → Written (phases_lines report.hex fell.did) (view report.sink) (view report'.sink)
         → LivedShort role report.hex bearers clocked start from to before (view report'.sink)
     short fell is elements many wrote =
-        let said = Said.said_all clocked left source_faults took told_pieces errors_faults [] lines lines' (fell.phases ++ fell.in_hand) unused fell.gave in
+        let said = Said.said_all clocked left source_faults took told_pieces errors_faults bearers (config_of fell.over).elements [] lines lines' fell.dues (fell.phases ++ fell.in_hand) unused fell.gave in
         let here = behind said.used lines' in
         record {
           over = fell.over;

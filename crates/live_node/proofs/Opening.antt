@@ -89,7 +89,7 @@ pub reset_over : (role : Role) (image : List ℕ → Type 0) (hex : Bool) (beare
     → WasReset start → Keeps start new → new.faults ≡ start.faults → IsUntouched image start new → IsUnwritten start new → MigratesOnly start new → to ≡ from
     → (status : Status) (was is : ℕ) → IsResetTold status before was after is → EndsOver role image hex bearers clocked start from to before after Stood status false new
 reset_over role image hex bearers clocked start new from to before after Stood reset kept no_fault untouched unwritten writes unread S.WasReset was is told =
-    record { reset = reset; wrote = told.0; unread = unread; no_fault = no_fault; untouched = untouched; unwritten = unwritten }
+    record { reset = reset; wrote = told.0; unread = unread; no_fault = no_fault; untouched = untouched; unwritten = unwritten; reads = writes.most_reads }
 reset_over role image hex bearers clocked start new from to before after Stood reset kept no_fault untouched unwritten writes unread S.WriteFault was is told =
     inl (refl, record { wrote = inr (reset_front start before after reset told.0); unread = unread; kept = kept; no_fault = no_fault; untouched = inr untouched; writes = writes; reset = λ was. unwritten })
 reset_over role image hex bearers clocked start new from to before after Stood reset kept no_fault untouched unwritten writes unread S.Memory was is told =

@@ -4,7 +4,7 @@ use Rattle.std.specs.Prelude.{All}
 use Rattle.std.proofs.lemmas.List.Elements.{All-cons, All-nil}
 use Rattle.mesh_base.specs.Outside.{Rose}
 use Rattle.mesh_types.specs.declared.events.Event.{Event}
-use Rattle.mesh_node.specs.Told.{BySteps, SourceSteps}
+use Rattle.mesh_node.specs.Told.{BySteps, GivesEach, SourceSteps}
 use Rattle.node_bearer.specs.Did.{AreEvents}
 use Rattle.live_lines.proofs.Events.{phase_fits}
 use Rattle.live_lines.specs.Moves.{Does, DoesAll, LinesAt, Move}
@@ -37,8 +37,8 @@ module _ {S E : Type 0} (clocked : Bool) (left : S → Option (List ℕ)) (sourc
     pub bearers : new.lines.bearers ≡ old.lines.bearers
     pub elements : new.lines.elements ≡ old.lines.elements
 
-  pub said_all : (begun : List ℕ) (old new : LinePhases S E) (phases : List (List (List Event))) → IsFrontOf old.front begun → BySteps line_steps.gives old phases new → Said begun old phases new
-  said_all begun old new [] is h = record {
+  pub said_all : (bearers elements : ℕ) (begun : List ℕ) (old new : LinePhases S E) (dues : List ℕ) (phases : List (List (List Event))) → IsFrontOf old.front begun → GivesEach line_steps bearers elements old dues phases new → Said begun old phases new
+  said_all asked size begun old new [] [] is h = record {
     used = begun;
     is = subst (λ (l : LinePhases S E). IsFrontOf l.front begun) (sym h) is;
     said = ap (behind begun) h;
@@ -46,13 +46,16 @@ module _ {S E : Type 0} (clocked : Bool) (left : S → Option (List ℕ)) (sourc
     bearers = ap (λ (l : LinePhases S E). l.lines.bearers) h;
     elements = ap (λ (l : LinePhases S E). l.lines.elements) h;
   }
-  said_all begun old new (p ∷ phases) is h =
+  said_all asked size begun old new [] (p ∷ phases) is h = absurd h
+  said_all asked size begun old new (due ∷ dues) [] is h = absurd h
+  said_all asked size begun old new (due ∷ dues) (p ∷ phases) is h =
       let (mid, step, more) = h in
-      let (live, gives) = step in
+      let (of, gives) = step in
+      let (node, live) = of in
       let (none, same) = live in
       let (why, bearers, elements) = same in
       let given = gives begun is in
-      let rest = said_all given.0 mid new phases given.1 more in
+      let rest = said_all asked size given.0 mid new dues phases given.1 more in
       record {
         used = rest.used;
         is = rest.is;

@@ -1,5 +1,6 @@
 -- What the life of a node leaves, whose phases are lines and whose report is written phase by phase.
 use Rattle.std.specs.Prelude.{◌≡◌, ◌⊎◌, ℕ, ◌<◌, ◌≤◌, true, false, if◌then◌else◌, All, Bool, List, [], ◌∷◌, ◌++◌, length, map, Option}
+use Rattle.flash_model.specs.Arming.{ReadsAtMost}
 use Rattle.flash_model.specs.Chip.{Chip, Keeps}
 use Rattle.mesh_types.specs.declared.events.Event.{Event}
 use Rattle.mesh_types.specs.declared.report.End.{End}
@@ -7,6 +8,7 @@ use Rattle.mesh_types.specs.declared.report.End.TheVariants as E
 use Rattle.mesh_types.specs.declared.report.Opened.{Opened}
 use Rattle.mesh_types.specs.declared.report.Opened.TheVariants as W
 use Rattle.mesh_types.specs.declared.report.ReportLine.{ReportLine}
+use Rattle.life_laws.specs.Pairs.{IsFromMove}
 use Rattle.machine_contract.specs.Moved.{HasMoved}
 use Rattle.machine_contract.specs.Opening.{IsNodeFlash, IsUnwritten, MigratesOnly, found_of}
 use Rattle.machine_contract.specs.Refused.{IsUntouched, WasReset}
@@ -21,9 +23,10 @@ use Rattle.run_definitions.specs.Order.{is_cut}
 use Rattle.seq_word.specs.Seen.{ClosedView}
 use Rattle.store_definitions.specs.Config.{config_of}
 use Rattle.store_definitions.specs.Recovered.{IsRecovered}
+use Rattle.store_definitions.specs.Wear.{MOUNT_READS}
 use Rattle.locked_node.specs.Stands.{IsLater}
 use Rattle.mesh_node.specs.Lived.{IsAllTold, IsLifeTold, life_told}
-use Rattle.mesh_node.specs.Told.{ArePlaced, AreToldEach, BySteps, PhaseDid, entries_told}
+use Rattle.mesh_node.specs.Told.{ArePlaced, AreToldEach, BySteps, PhaseDid, entries_told, sends_told}
 use Rattle.node_bearer.specs.Did.{AreEvents}
 use Rattle.live_lines.specs.Moves.{LinesAt}
 use Rattle.live_lines.specs.Steps.{Ends, Fails, GivesPhase}
@@ -172,6 +175,8 @@ module _ (Stood : Standing) (role : Role) (image : List ℕ → Type 0) (hex : B
     pub no_fault : closed ≡ false → new.faults ≡ start.faults
     -- where it wasn't cut, the counter was moved with each record that raised the transmit IV Index, and at no other time
     pub moved : closed ≡ false → HasMoved role over (entries_told did) refills drawn.advances
+    -- no line draws a word, or tells the end of an IV Index, below where the counter had been moved to behind its entry (`moves` of `paid`)
+    pub from_moves : All (All (IsFromMove (entries_told did) all.machine.moves)) (sends_told bearers did)
     -- without a phase nothing was written but what a migration of format 01 writes
     pub writes : phases ≡ [] → MigratesOnly start new
 
@@ -246,8 +251,8 @@ pub record Unopened (image : List ℕ → Type 0) (start new : Chip) (from to : 
   pub writes : MigratesOnly start new
   pub reset : WasReset start → IsUnwritten start new
 
--- There was a Node Reset: the line of that was written, and nothing else was done. The flash didn't fail, nothing was written to it, and it recovers
--- what it did.
+-- There was a Node Reset: the line of that was written, and nothing else was done. The flash didn't fail, nothing was written to it, it had at most
+-- the read calls of a mount, and it recovers what it did.
 pub record ToldReset (image : List ℕ → Type 0) (start new : Chip) (from to : StreamsAt) (before after : SinkView) : Type 0 where
   pub reset : WasReset start
   pub wrote : Written (opened_line 1 W.WasReset ∷ []) before after
@@ -255,6 +260,7 @@ pub record ToldReset (image : List ℕ → Type 0) (start new : Chip) (from to :
   pub no_fault : new.faults ≡ start.faults
   pub untouched : IsUntouched image start new
   pub unwritten : IsUnwritten start new
+  pub reads : ReadsAtMost MOUNT_READS start new
 
 -- The flash failed as the life was opened: no line was read and none written, and the flash recovers what it did. Nothing was written to it but what
 -- a migration of format 01 writes, and where there was a Node Reset nothing at all.

@@ -1,5 +1,5 @@
 -- What holds of a node behind a call of its machine: no refill was stored before there was a job that draws.
-use Rattle.std.proofs.Common.{◌≡◌, ◌∙◌, ◌≤◌, ℕ, zero, suc, true, false, true≢false, List, [], ◌∷◌, ◌++◌, map, Some, refl, sym, ap, subst}
+use Rattle.std.proofs.Common.{◌≡◌, ◌∙◌, ◌≤◌, ℕ, zero, suc, true, false, true≢false, List, [], ◌∷◌, ◌++◌, Some, refl, sym, ap, subst}
 use Rattle.std.specs.Prelude.{All, slice_get}
 use Rattle.std.proofs.lemmas.List.Elements.{All-head, All-tail}
 use Rattle.flash_model.proofs.Runs.{past_more}
@@ -13,7 +13,7 @@ use Rattle.machine_contract.specs.Opening.{FlashFound, found_of}
 use Rattle.machine_contract.specs.View.{MachineView}
 use Rattle.locked_node.specs.declared.marks.Mark.TheVariants as M
 use Rattle.locked_node.specs.Asked.{AreAsked, DrawsNone, WasAsked}
-use Rattle.locked_node.specs.Node.{marks_of}
+use Rattle.locked_node.specs.Node.{handled_marks, marks_of}
 use Rattle.locked_node.specs.Stands.{Holds}
 
 -- an entry more has the refills before it, and none is behind it yet
@@ -30,18 +30,22 @@ draws_here (x ∷ jobs) zero job is draws h =
 draws_here (x ∷ jobs) (suc j) job is draws h = draws_here jobs j job is draws (All-tail (λ x. is_drawing x ≡ false) x jobs h)
 
 -- so behind such a job any number of refills may be stored
-asked_behind : (es : List Entry) (at : ℕ) (e : Entry) → slice_get (map M.Handled es ++ []) at ≡ Some (M.Handled e) → (DrawsNone e → true ≡ false)
+asked_behind : (es : List Entry) (moves : List ℕ) (at : ℕ) (e : Entry) (move : ℕ) → slice_get (handled_marks es moves ++ []) at ≡ Some (M.Handled e move) → (DrawsNone e → true ≡ false)
     → (m n : ℕ) → AreAsked es m → AreAsked es n
-asked_behind [] at e is draws m n h = cc
-asked_behind (x ∷ es) zero e is draws m n h =
+asked_behind [] moves at e move is draws m n h = cc
+asked_behind (x ∷ es) [] zero e move is draws m n h =
     let same : x ≡ e = cc in
     (h.0, λ none. absurd (true≢false (draws (subst DrawsNone same none))))
-asked_behind (x ∷ es) (suc at) e is draws m n h = (h.0, λ none. asked_behind es at e is draws m n (h.1 none))
+asked_behind (x ∷ es) (y ∷ moves) zero e move is draws m n h =
+    let same : x ≡ e = cc in
+    (h.0, λ none. absurd (true≢false (draws (subst DrawsNone same none))))
+asked_behind (x ∷ es) [] (suc at) e move is draws m n h = (h.0, λ none. asked_behind es [] at e move is draws m n (h.1 none))
+asked_behind (x ∷ es) (y ∷ moves) (suc at) e move is draws m n h = (h.0, λ none. asked_behind es moves at e move is draws m n (h.1 none))
 
-pub asked_more : (es : List Entry) (stops : ℕ) (hand : Hand) → stops ≡ 0 → WasAsked (marks_of es stops hand) → (m n : ℕ) → AreAsked es m → AreAsked es n
-asked_more es stops hand none w m n h =
-    let here = subst (λ k. slice_get (marks_of es k hand) w.at ≡ Some (M.Handled w.entry)) none w.here in
-    asked_behind es w.at w.entry here (draws_here w.entry.jobs w.place w.job w.has w.draws) m n h
+pub asked_more : (es : List Entry) (moves : List ℕ) (stops : ℕ) (hand : Hand) → stops ≡ 0 → WasAsked (marks_of es moves stops hand) → (m n : ℕ) → AreAsked es m → AreAsked es n
+asked_more es moves stops hand none w m n h =
+    let here = subst (λ k. slice_get (marks_of es moves k hand) w.at ≡ Some (M.Handled w.entry w.move)) none w.here in
+    asked_behind es moves w.at w.entry w.move here (draws_here w.entry.jobs w.place w.job w.has w.draws) m n h
 
 -- What holds of a node whose machine was called, and answered Ok.
 pub holds_on : {M F : Type 0} (stands : FlashFound → Chip → List StoreRecord → M → Type 0) (view : M → MachineView) (chip : F → Chip) (old new : M) (start flash after : F) (stops : ℕ)

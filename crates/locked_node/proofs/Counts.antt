@@ -1,15 +1,16 @@
--- The marks of a node: how many they are, and one mark more for a bearer that stops.
-use Rattle.std.proofs.Common.{◌≡◌, ℕ, zero, suc, ◌+◌, ◌<◌, ◌^◌, List, [], ◌∷◌, ◌++◌, length, map, Option, None, refl, sym, ap, ◌∙◌, arith, length-append}
+-- The marks of a node: how many they are, one mark more for an entry, and one for a bearer that stops.
+use Rattle.std.proofs.Common.{◌≡◌, ℕ, zero, suc, ◌+◌, ◌<◌, ◌^◌, List, [], ◌∷◌, ◌++◌, length, Option, None, refl, sym, ap, ◌∙◌, arith, append_assoc, append-nil, length-append}
 use Rattle.std.specs.Prelude.{replicate}
-use Rattle.std.proofs.Common.{append_assoc}
-use Rattle.std.proofs.lemmas.List.{length-map}
 use Rattle.mesh_types.specs.declared.history.Entry.{Entry}
 use Rattle.mesh_types.specs.declared.events.Event.{Event}
 use Rattle.machine_contract.specs.declared.answers.Hand.{Hand}
+use Rattle.machine_contract.specs.View.{with_entry}
+use Rattle.seq_word.specs.Seen.{last_word}
 use Rattle.turn_lock.specs.Entries.{IsPrefix}
 use Rattle.locked_node.specs.declared.marks.Mark.{Mark}
 use Rattle.locked_node.specs.declared.marks.Mark.TheVariants as M
-use Rattle.locked_node.specs.Node.{NodeView, event_in, marks_of, node_marks, stop_marks}
+use Rattle.locked_node.specs.Node.{NodeView, event_in, handled_marks, marks_of, node_marks, stop_marks}
+use Rattle.locked_node.proofs.Told.{last_more}
 
 length_replicate : (n : ℕ) (x : Mark) → length (replicate n x) ≡ n
 length_replicate zero x = refl
@@ -19,14 +20,49 @@ pub length_stops : (n : ℕ) (event : Option Event) → length (stop_marks n eve
 length_stops zero event = refl
 length_stops (suc n) event = ap suc (length_replicate n (M.Stopped None))
 
-pub length_marks : (es : List Entry) (n : ℕ) (hand : Hand) → length (marks_of es n hand) ≡ length es + n
-length_marks es n hand = omega (arith, length-append (map M.Handled es) (stop_marks n (event_in hand)), length-map {B = Mark} es, length_stops n (event_in hand))
+length_handled : (es : List Entry) (moves : List ℕ) → length (handled_marks es moves) ≡ length es
+length_handled [] moves = refl
+length_handled (e ∷ es) [] = ap suc (length_handled es [])
+length_handled (e ∷ es) (move ∷ moves) = ap suc (length_handled es moves)
+
+pub length_marks : (es : List Entry) (moves : List ℕ) (n : ℕ) (hand : Hand) → length (marks_of es moves n hand) ≡ length es + n
+length_marks es moves n hand = omega (arith, length-append (handled_marks es moves) (stop_marks n (event_in hand)), length_handled es moves, length_stops n (event_in hand))
 
 few_sum : (a b n : ℕ) → n ≡ a + b → a < 2 ^ 32 → b < 2 ^ 32 → n < 2 ^ 64
 few_sum a b n e p q = omega arith
 
-pub few_marks : (es : List Entry) (n : ℕ) (hand : Hand) → length es < 2 ^ 32 → n < 2 ^ 32 → length (marks_of es n hand) < 2 ^ 64
-few_marks es n hand p q = few_sum (length es) n _ (length_marks es n hand) p q
+pub few_marks : (es : List Entry) (moves : List ℕ) (n : ℕ) (hand : Hand) → length es < 2 ^ 32 → n < 2 ^ 32 → length (marks_of es moves n hand) < 2 ^ 64
+few_marks es moves n hand p q = few_sum (length es) n _ (length_marks es moves n hand) p q
+
+-- an entry more, with the move behind it
+handled_more : (es : List Entry) (moves : List ℕ) (e : Entry) (move : ℕ) → length moves ≡ length es
+    → handled_marks (es ++ e ∷ []) (moves ++ move ∷ []) ≡ handled_marks es moves ++ M.Handled e move ∷ []
+handled_more [] [] e move long = refl
+handled_more [] (m ∷ moves) e move long = absurd (omega (arith, long))
+handled_more (x ∷ es) [] e move long = absurd (omega (arith, long))
+handled_more (x ∷ es) (m ∷ moves) e move long = ap (λ l. M.Handled x m ∷ l) (handled_more es moves e move (omega (arith, long)))
+
+-- where no bearer has stopped
+bare_marks : (es : List Entry) (moves : List ℕ) (hand : Hand) → marks_of es moves 0 hand ≡ handled_marks es moves
+bare_marks es moves hand = append-nil (handled_marks es moves)
+
+entry_marks : {F : Type 0} (old new : NodeView F) (e : Entry) (move mark : ℕ) → new.machine ≡ with_entry old.machine e move mark → old.stops ≡ 0 → new.stops ≡ old.stops
+    → length old.machine.moves ≡ length old.machine.entries → node_marks new ≡ node_marks old ++ M.Handled e move ∷ []
+entry_marks old new e move mark is none same long =
+    let m = old.machine in
+    ap (λ v. marks_of v.entries v.moves new.stops v.hand) is ∙ ap (λ n. marks_of (m.entries ++ e ∷ []) (m.moves ++ move ∷ []) n m.hand) (same ∙ none)
+    ∙ bare_marks (m.entries ++ e ∷ []) (m.moves ++ move ∷ []) m.hand ∙ handled_more m.entries m.moves e move long
+    ∙ ap (λ l. l ++ M.Handled e move ∷ []) (sym (ap (λ n. marks_of m.entries m.moves n m.hand) none ∙ bare_marks m.entries m.moves m.hand))
+
+module _ {F : Type 0} (old new : NodeView F) (e : Entry) (move mark : ℕ) (is : new.machine ≡ with_entry old.machine e move mark) (none : old.stops ≡ 0) (same : new.stops ≡ old.stops)
+    (long : length old.machine.moves ≡ length old.machine.entries) where
+  pub entered : node_marks new ≡ node_marks old ++ M.Handled e (last_word new.machine.moves) ∷ []
+  entered =
+      entry_marks old new e move mark is none same long
+      ∙ ap (λ n. node_marks old ++ M.Handled e n ∷ []) (sym (ap (λ m. last_word m.moves) is ∙ last_more old.machine.moves move))
+
+  pub entered_front : IsPrefix (node_marks old) (node_marks new)
+  entered_front = record { rest = M.Handled e (last_word new.machine.moves) ∷ []; is = entered }
 
 replicate_more : (n : ℕ) (x : Mark) → replicate (suc n) x ≡ replicate n x ++ x ∷ []
 replicate_more zero x = refl
@@ -36,9 +72,9 @@ stops_more : (n : ℕ) (event : Option Event) → 0 < n → stop_marks (suc n) e
 stops_more zero event h = absurd (omega (arith, h))
 stops_more (suc n) event h = ap (λ l. M.Stopped event ∷ l) (replicate_more n (M.Stopped None))
 
-pub marks_more : (es : List Entry) (n : ℕ) (hand : Hand) → 0 < n → marks_of es (suc n) hand ≡ marks_of es n hand ++ M.Stopped None ∷ []
-marks_more es n hand h =
-    ap (λ l. map M.Handled es ++ l) (stops_more n (event_in hand) h) ∙ sym (append_assoc (map M.Handled es) (stop_marks n (event_in hand)) (M.Stopped None ∷ []))
+pub marks_more : (es : List Entry) (moves : List ℕ) (n : ℕ) (hand : Hand) → 0 < n → marks_of es moves (suc n) hand ≡ marks_of es moves n hand ++ M.Stopped None ∷ []
+marks_more es moves n hand h =
+    ap (λ l. handled_marks es moves ++ l) (stops_more n (event_in hand) h) ∙ sym (append_assoc (handled_marks es moves) (stop_marks n (event_in hand)) (M.Stopped None ∷ []))
 
 pub front_more : {F : Type 0} (old new : NodeView F) → new.machine ≡ old.machine → new.stops ≡ old.stops + 1 → 0 < old.stops
     → IsPrefix (node_marks old) (node_marks new)
@@ -47,6 +83,6 @@ front_more old new m s h =
     record {
       rest = M.Stopped None ∷ [];
       is =
-          ap (λ v. marks_of v.entries new.stops v.hand) m ∙ ap (λ n. marks_of old.machine.entries n old.machine.hand) one
-          ∙ marks_more old.machine.entries old.stops old.machine.hand h;
+          ap (λ v. marks_of v.entries v.moves new.stops v.hand) m ∙ ap (λ n. marks_of old.machine.entries old.machine.moves n old.machine.hand) one
+          ∙ marks_more old.machine.entries old.machine.moves old.stops old.machine.hand h;
     }

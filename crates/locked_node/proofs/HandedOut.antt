@@ -14,7 +14,7 @@ module _ {M F : Type 0} (stands : FlashFound → Chip → List StoreRecord → M
   began = ap (λ (s : Setting). s.faults) handed.setting
 
   same : IsSameFlash (chip old) (chip new)
-  same = record { honest = handed.honest; stays = handed.images; now = handed.now; faults = handed.faults; began = began; changes = handed.changes }
+  same = record { honest = handed.honest; stays = handed.images; now = handed.now; faults = handed.faults; began = began; count = λ i. record { calls = handed.changes i; erases = handed.erases i; octets = handed.octets i }; reads = handed.reads }
 
   pub holds_handed : ((first : FlashFound) (over : List StoreRecord) → IsSameFlash (chip old) (chip new) → stands first (chip old) over machine → stands first (chip new) over machine)
       → Holds stands view chip machine start old stops → Holds stands view chip machine start new stops

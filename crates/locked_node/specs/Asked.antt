@@ -19,7 +19,8 @@ AreAsked (e ∷ entries) fills = (e.fills ≡ 0) × (DrawsNone e → AreAsked en
 pub record WasAsked (marks : List Mark) : Type 0 where
   pub at : ℕ
   pub entry : Entry
-  pub here : slice_get marks at ≡ Some (M.Handled entry)
+  pub move : ℕ
+  pub here : slice_get marks at ≡ Some (M.Handled entry move)
   pub place : ℕ
   pub job : Job
   pub has : slice_get entry.jobs place ≡ Some job

@@ -1,5 +1,6 @@
 -- The value behind the lock as contracts see it, and its entries.
-use Rattle.std.specs.Prelude.{◌≡◌, ℕ, zero, suc, List, [], ◌∷◌, ◌++◌, map, replicate, Option, Some, None, ⊤}
+use Rattle.std.specs.Prelude.{◌≡◌, ◌⊎◌, ℕ, zero, suc, List, [], ◌∷◌, ◌++◌, map, replicate, Option, Some, None, ⊤}
+use Rattle.std.specs.List.{Contains}
 use Rattle.std.specs.Option.{option_map}
 use Rattle.flash_model.specs.Chip.{Arm, Chip}
 use Rattle.mesh_types.specs.declared.events.Event.{Event}
@@ -36,11 +37,17 @@ abbrev pub stop_marks : ℕ → Option Event → List Mark
 stop_marks zero event = []
 stop_marks (suc n) event = M.Stopped event ∷ replicate n (M.Stopped None)
 
-abbrev pub marks_of : List Entry → ℕ → Hand → List Mark
-marks_of entries stops hand = map M.Handled entries ++ stop_marks stops (event_in hand)
+-- one mark for each entry, with the move behind it
+abbrev pub handled_marks : List Entry → List ℕ → List Mark
+handled_marks [] moves = []
+handled_marks (e ∷ entries) [] = M.Handled e 0 ∷ handled_marks entries []
+handled_marks (e ∷ entries) (move ∷ moves) = M.Handled e move ∷ handled_marks entries moves
+
+abbrev pub marks_of : List Entry → List ℕ → ℕ → Hand → List Mark
+marks_of entries moves stops hand = handled_marks entries moves ++ stop_marks stops (event_in hand)
 
 abbrev pub node_marks : {F : Type 0} → NodeView F → List Mark
-node_marks n = marks_of n.machine.entries n.stops n.machine.hand
+node_marks n = marks_of n.machine.entries n.machine.moves n.stops n.machine.hand
 
 abbrev pub armed_by : Arm → Armed
 armed_by a = record { calls = a.calls; mask = a.mask; changes = a.changes }
@@ -54,7 +61,12 @@ origin_of chip n = record {
   arm = option_map armed_by (chip n.flash).setting.arm;
   saved = (chip n.flash).setting.saved;
   moment = (chip n.flash).setting.moment;
+  called = (chip n.flash).setting.called;
 }
+
+-- a seat that was told these words knows where the counter had been moved to last
+abbrev pub HasBeenTold : List ℕ → ℕ → Type 0
+HasBeenTold informed move = (move ≡ 0) ⊎ Contains informed move
 
 -- of a bearer that stopped, but for want of memory
 abbrev pub OnStop : Stop → Type 0 → Type 0

@@ -8,8 +8,8 @@ use std::collections::LinkedList;
 
 /// An entry of the lock.
 pub enum Mark {
-    /// An entry of the history.
-    Handled(Entry),
+    /// An entry of the history, with the word that the counter had been moved to last behind it, 0 where it hadn't been.
+    Handled(Entry, u64),
     /// A bearer stopped, since the flash failed; with the event that was in hand when it failed, if there was one.
     Stopped(Option<Event>),
 }
@@ -40,4 +40,6 @@ pub struct Origin<F> {
     pub saved: LinkedList<u8>,
     /// Its moment then.
     pub moment: u64,
+    /// How many program and erase calls had been counted then.
+    pub called: u64,
 }

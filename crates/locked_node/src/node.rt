@@ -5,6 +5,7 @@ ghost use Rattle.std.specs.Prelude.{◌≡◌, ◌≢◌, ℕ, ◌+◌, ◌<◌,
 ghost use Rattle.flash_model.specs.Chip.{Chip, KeepsCount};
 ghost use Rattle.record_types.specs.declared.records.StoreRecord.{StoreRecord};
 ghost use Rattle.run_definitions.specs.Order.{is_outside};
+ghost use Rattle.seq_word.specs.Seen.{last_word};
 ghost use Rattle.seq_word.specs.Word.{seq_of};
 ghost use Rattle.store_definitions.specs.Recovered.{IsRecovered};
 ghost use Rattle.turn_lock.specs.Entries.{IsPrefix};
@@ -13,7 +14,7 @@ ghost use Rattle.machine_contract.specs.Ranges.{IsEvent, IsJob, IsQuiet};
 ghost use Rattle.machine_contract.specs.View.{entry_for};
 ghost use Rattle.locked_node.specs.declared.marks.Mark.TheVariants as Marks;
 ghost use Rattle.locked_node.specs.Asked.{AreAsked, WasAsked};
-ghost use Rattle.locked_node.specs.Node.{IsStopped, IsStoppedBare, NodeView, OnStop, node_marks, origin_of};
+ghost use Rattle.locked_node.specs.Node.{HasBeenTold, IsStopped, IsStoppedBare, NodeView, OnStop, node_marks, origin_of};
 ghost use Rattle.locked_node.specs.Stands.{HasMachine, Holds, IsLater, IsNode};
 
 use crate::known::Known;
@@ -23,7 +24,7 @@ use flash_model::{Bench, Flash};
 use machine_contract::{Answered, Machine, ReadBefore, Stop};
 use mesh_types::events::Event;
 use mesh_types::history::Entry;
-use seq_word::{Dry, Numbers};
+use seq_word::{Drawer, Dry, Numbers};
 use std::alloc::{AllocError, Global};
 use std::marker::Model;
 use turn_lock::Logged;
@@ -74,6 +75,7 @@ impl<M: Machine, F: Flash + Send + Drop> Logged for Node<M, F> {
 
     ghost origin = { λ n. origin_of F.chip n };
 
+    #[tactic(auto, using(crate::proofs::Counts::length_marks))]
     fn count(&self) -> u64 {
         self.held.machine.count() + u64::from(self.held.stops)
     }
@@ -108,18 +110,21 @@ impl<M: Machine, F: Flash + Send + Drop> Node<M, F> {
         self.held.machine.reader(reader);
     }
 
-    /// Handles an event of a bearer, which may have been read before. Where the flash failed, now or before, the bearer's mark is put.
+    /// Handles an event of a bearer, which may have been read before, and tells the bearer's seat where the counter was moved to so far (`informed`).
+    /// Where the flash failed, now or before, the bearer's mark is put.
     ///
     /// An event is refused for want of memory too where 2^32 - 1 bearers have stopped.
     pub fn handle(
         &mut self,
         n: &Numbers,
+        drawer: &mut Drawer,
         bearer: u8,
         number: u32,
         event: &Event,
         early: &ReadBefore<'_, M::Reader, M::Reading>,
     ) -> Result<Answered, Stop>
         requires made { self.old.machine.which ≡ n.now.which }
+        requires drawer_made { drawer.old.which ≡ n.now.which }
         requires event { IsEvent self.old.machine.elements event.now }
         requires early { M.fits early.now.reader.now early.now.reading.now event.now }
         ensures origin { origin_of F.chip self.new ≡ origin_of F.chip self.old }
@@ -127,7 +132,11 @@ impl<M: Machine, F: Flash + Send + Drop> Node<M, F> {
         ensures ok { IfOk result
             (λ r. node_marks self.new
             ≡ node_marks self.old
-            ++ Marks.Handled (entry_for self.old.machine bearer number event.now r.answer r.jobs) ∷ []) }
+            ++ Marks.Handled (entry_for self.old.machine bearer number event.now r.answer r.jobs)
+            (last_word self.new.machine.moves) ∷ []) }
+        ensures informed { OnOk result (HasBeenTold drawer.new.informed (last_word self.new.machine.moves)) }
+        ensures more { IsPrefix drawer.old.informed drawer.new.informed }
+        ensures drawer { drawer.new ≡ record drawer.old { informed = drawer.new.informed } }
         ensures place { IfOk result (λ r. r.at ≡ length (node_marks self.old)) }
         ensures fills { OnOk result (self.new.machine.fills ≡ 0) }
         ensures jobs { IfOk result (λ r. All (IsJob event.now) r.jobs) }
@@ -139,11 +148,16 @@ impl<M: Machine, F: Flash + Send + Drop> Node<M, F> {
             return Err(Stop::Memory);
         }
         let held = &mut *self.held;
+        // It does nothing when it runs: the proof uses what it says.
+        M::tells::<F>();
         match held
             .machine
             .handle(n, &mut held.flash, bearer, number, event, early)
         {
-            Ok(answered) => Ok(answered),
+            Ok(answered) => {
+                held.machine.inform(n, drawer);
+                Ok(answered)
+            }
             Err(Stop::Memory) => Err(Stop::Memory),
             Err(Stop::Closed) => {
                 self.held.stops += 1;
@@ -257,6 +271,7 @@ impl<M: Machine, F: Bench> Node<M, F> {
         requires none { (F.chip self.old.flash).setting.arm ≡ None }
         ensures arm { (F.chip self.new.flash).setting.arm
             ≡ Some (record { calls = calls; mask = mask; changes = (F.chip self.old.flash).changes }) }
+        ensures saved { (F.chip self.new.flash).setting.saved ≡ (F.chip self.old.flash).setting.saved }
         ensures frame { self.new ≡ record self.old { flash = self.new.flash } }
     {
         self.held.flash.arm(calls, mask);

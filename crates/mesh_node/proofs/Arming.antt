@@ -4,7 +4,7 @@ use Rattle.std.specs.Prelude.{All, IsTrue}
 use Rattle.std.specs.List.{Contains}
 use Rattle.std.proofs.lemmas.List.Elements.{All-tail}
 use Rattle.flash_model.proofs.Runs.{past_more, past_none}
-use Rattle.flash_model.specs.Chip.{Arm, Chip, IsFresh, KeepsCount, Setting, Stays}
+use Rattle.flash_model.specs.Chip.{Arm, CallCount, Chip, IsFresh, KeepsCount, Setting, Stays, count_of}
 use Rattle.machine_contract.specs.Opening.{IsNodeFlash}
 use Rattle.run_definitions.specs.Order.{Step, arm, phases_of}
 use Rattle.life_laws.specs.declared.plan.PlanStep.{PlanStep}
@@ -55,21 +55,27 @@ first_given [] n = tt
 first_given (P.Arm calls mask ∷ xs) n = λ none. cc
 first_given (P.Phase lists ∷ xs) n = tt
 
+-- the count of calls, by its parts
+counted_as : (chip : Chip) (n : CallCount) → chip.changes ≡ n.calls → chip.erases ≡ n.erases → chip.octets ≡ n.octets → count_of chip ≡ n
+counted_as chip n calls erases octets = λ i. record { calls = calls i; erases = erases i; octets = octets i }
+
 -- the flash with the order, and without one
 pub armed_by_first : (old new : Chip) (calls mask : ℕ) (xs : List PlanStep)
-    → new.setting ≡ record old.setting { arm = Some (record { calls = calls; mask = mask; changes = old.changes }) } → KeepsCount old new → new.changes ≡ old.changes → (IsTrue old.honest → Stays old new)
+    → new.setting ≡ record old.setting { arm = Some (record { calls = calls; mask = mask; changes = old.changes }) } → KeepsCount old new → new.changes ≡ old.changes → new.erases ≡ old.erases → new.octets ≡ old.octets → new.reads ≡ old.reads → (IsTrue old.honest → Stays old new)
     → IsArmedFirst (P.Arm calls mask ∷ xs) old new
-armed_by_first old new calls mask xs setting count changes stays = record {
+armed_by_first old new calls mask xs setting count changes erases octets reads stays = record {
   order = ap (λ (s : Setting). s.arm) setting;
   steady = count.steady;
   cycles = ap (λ (s : Setting). s.cycles) setting;
-  changes = changes;
+  saved = ap (λ (s : Setting). s.saved) setting;
+  count = counted_as new (count_of old) changes erases octets;
+  reads = reads;
   past = count.past;
-  same = λ honest. record { honest = count.honest; stays = (stays honest).images; now = (stays honest).now; faults = count.faults; began = ap (λ (s : Setting). s.faults) setting; changes = changes };
+  same = λ honest. record { honest = count.honest; stays = (stays honest).images; now = (stays honest).now; faults = count.faults; began = ap (λ (s : Setting). s.faults) setting; count = counted_as new (count_of old) changes erases octets; reads = reads };
 }
 
 pub armed_by_none : (chip : Chip) (xs : List PlanStep) → chip.setting.arm ≡ first_order xs chip.changes → IsArmedFirst xs chip chip
-armed_by_none chip xs none = record { order = none; steady = refl; cycles = refl; changes = refl; past = past_none chip; same = λ honest. record { honest = refl; stays = λ image among. among; now = refl; faults = refl; began = refl; changes = refl } }
+armed_by_none chip xs none = record { order = none; steady = refl; cycles = refl; saved = refl; count = refl; reads = refl; past = past_none chip; same = λ honest. record { honest = refl; stays = λ image among. among; now = refl; faults = refl; began = refl; count = refl; reads = refl } }
 
 -- a flash that a life finds, where power was cycled and an order that stands first was given
 pub record Powered (image : List ℕ → Type 0) (steps : List PlanStep) (old start : Chip) : Type 0 where
@@ -79,15 +85,17 @@ pub record Powered (image : List ℕ → Type 0) (steps : List PlanStep) (old st
   pub began : start.setting.faults ≡ old.faults
   pub count : KeepsCount old start
   pub cycles : start.setting.cycles ≡ old.setting.cycles + 1
-  pub uncalled : start.changes ≡ 0
+  pub uncalled : count_of start ≡ record { calls = 0; erases = 0; octets = 0 }
+  pub unread : start.reads ≡ 0
+  pub read : start.setting.saved ≡ start.now
   pub order : IsOfPlan (steps_of steps) start.setting.arm
   pub first : IsFirstGiven steps start.setting.arm
   pub armed : start.setting.arm ≡ first_order steps 0
   pub may : HasOneArm steps → MayFollow (behind_arm steps) start.setting.arm
 
 pub powered : (image : List ℕ → Type 0) (steps : List PlanStep) (old cycled start : Chip) → IsNodeFlash image old → KeepsCount old cycled → (IsTrue old.honest → IsFresh cycled) → (IsTrue old.honest → old.images cycled.now)
-    → cycled.setting ≡ record { faults = old.faults; arm = None; saved = cycled.now; moment = cycled.moment; cycles = old.setting.cycles + 1 } → cycled.changes ≡ 0 → IsArmedFirst steps cycled start → Powered image steps old start
-powered image steps old cycled start h count fresh is setting none armed =
+    → cycled.setting ≡ record { faults = old.faults; arm = None; saved = cycled.now; moment = cycled.moment; called = 0; cycles = old.setting.cycles + 1 } → cycled.changes ≡ 0 → cycled.erases ≡ 0 → cycled.octets ≡ 0 → cycled.reads ≡ 0 → IsArmedFirst steps cycled start → Powered image steps old start
+powered image steps old cycled start h count fresh is setting none unerased unprogrammed unread armed =
     let cold = fresh h.honest in
     let same = armed.same cold.honest in
     let was = is h.honest in
@@ -99,7 +107,9 @@ powered image steps old cycled start h count fresh is setting none armed =
       began = same.began ∙ ap (λ (s : Setting). s.faults) setting;
       count = record { honest = same.honest ∙ count.honest; steady = armed.steady ∙ count.steady; faults = same.faults ∙ count.faults; past = past_more old cycled start count.past armed.past };
       cycles = armed.cycles ∙ ap (λ (s : Setting). s.cycles) setting;
-      uncalled = armed.changes ∙ none;
+      uncalled = armed.count ∙ counted_as cycled (record { calls = 0; erases = 0; octets = 0 }) none unerased unprogrammed;
+      unread = armed.reads ∙ unread;
+      read = armed.saved ∙ ap (λ (s : Setting). s.saved) setting ∙ sym same.now;
       order = subst (IsOfPlan (steps_of steps)) (sym armed.order) (first_of steps cycled.changes);
       first = subst (IsFirstGiven steps) (sym armed.order) (first_given steps cycled.changes);
       armed = armed.order ∙ ap (first_order steps) none;

@@ -2,13 +2,14 @@
 use Rattle.std.proofs.Common.{◌≡◌, ◌≢◌, ◌∙◌, inl, inr, ◌+◌, ℕ, zero, suc, Option, ◌<◌, ◌≤◌, true, false, true≢false, Bool, List, [], Vec, Global, length, map, Some, None, refl, sym, ap, subst, arith}
 use Rattle.std.specs.Prelude.{◌^◌, All, IfSome, IsTrue}
 use Rattle.std.proofs.lemmas.List.{length-map}
-use Rattle.flash_model.specs.Arming.{IsExplained, IsReached}
+use Rattle.flash_model.specs.Arming.{IsCarriedOut, IsExplained, IsReached, IsWithin as IsBeforeTorn, ReadsAtMost}
 use Rattle.flash_model.proofs.Runs.{past_more}
-use Rattle.flash_model.specs.Chip.{Arm, Chip, Keeps, KeepsCount, Setting}
+use Rattle.flash_model.specs.Chip.{Arm, CallCount, Chip, Keeps, KeepsCount, Setting, count_of}
 use Rattle.machine_contract.specs.Moved.{HasMoved}
 use Rattle.machine_contract.specs.Opening.{EachRecovered, FlashFound, IsUnwritten, MigratesOnly, found_of}
 use Rattle.machine_contract.specs.Refused.{IsUntouched, WasReset}
 use Rattle.machine_contract.specs.Standing.{IsLifeSoFar}
+use Rattle.mesh_types.specs.declared.history.Entry.{Entry}
 use Rattle.mesh_types.specs.declared.history.Sent.{Sent}
 use Rattle.mesh_types.specs.declared.report.End.TheVariants as Ends
 use Rattle.mesh_types.specs.declared.report.Opened.TheVariants as W
@@ -18,15 +19,17 @@ use Rattle.run_definitions.specs.Order.{Step, is_cut, phases_of}
 use Rattle.run_definitions.specs.RunOf.{LifeOf, Opens, cut_at_start, is_on, was_reset}
 use Rattle.seq_word.specs.Rule.{IsEndOf, IsWithin, times}
 use Rattle.seq_word.specs.Seen.{ClosedView, DrawerView}
-use Rattle.node_limits.specs.declared.TheConstants.{COMPACTION_CALLS}
+use Rattle.node_limits.specs.declared.TheConstants.{BANK_SECTORS, COMPACTION_CALLS}
 use Rattle.slot_definitions.specs.Slots.{HasFormat}
 use Rattle.store_definitions.specs.Config.{config_of}
 use Rattle.store_definitions.specs.Recovered.{IsRecovered}
+use Rattle.store_definitions.specs.Wear.{COMPACTION_OCTETS, MOUNT_READS}
 use Rattle.locked_node.specs.Asked.{AreAsked}
 use Rattle.locked_node.specs.Node.{NodeView}
 use Rattle.locked_node.specs.Stands.{HasMachine, IsLater, IsNode}
-use Rattle.life_laws.specs.Pairs.{PairsSo}
+use Rattle.life_laws.specs.Pairs.{IsFromMove, PairsSo}
 use Rattle.life_laws.proofs.OneLife.{idle_life}
+use Rattle.life_laws.proofs.Pairing.{from_all}
 use Rattle.life_laws.specs.declared.plan.LifeLog.{LifeLog}
 use Rattle.machine_contract.specs.View.{MachineView}
 use Rattle.mesh_node.specs.Drawn.{TellsDrawn, opened_at}
@@ -53,12 +56,12 @@ abbrev pub OpensWithin : Bool → List ℕ → LifeLog → Type 0
 OpensWithin steady found log = IsTrue steady → log.opened ≡ W.CutAtStart → HasFormat 1 found
 
 -- the calls of that at most, and none of another format
-abbrev pub OpensFor : List ℕ → ℕ → Type 0
-OpensFor found changes = (changes ≤ COMPACTION_CALLS) × (¬ HasFormat 1 found → changes ≡ 0)
+abbrev pub OpensFor : List ℕ → Chip → Type 0
+OpensFor found new = (new.changes ≤ COMPACTION_CALLS) × (new.erases ≤ BANK_SECTORS) × (new.octets ≤ COMPACTION_OCTETS) × (¬ HasFormat 1 found → count_of new ≡ (found_at found).count)
 
--- what a life finds
-abbrev found_by : List ℕ → ℕ → FlashFound
-found_by now changes = record { now = now; changes = changes }
+-- a life finds it so
+found_as : (start : Chip) → count_of start ≡ (found_at start.now).count → start.reads ≡ 0 → found_of start ≡ found_at start.now
+found_as start uncalled unread = λ i. record { now = start.now; count = uncalled i; reads = unread i }
 
 reset_or_cut : W.WasReset ≡ W.CutAtStart → ⊥
 reset_or_cut e = cc
@@ -79,10 +82,14 @@ unreached (Some a) (inr full) = omega (arith, full)
 -- Cut as it opens, by an order of so many calls: of another format it made none.
 opens_within : (start new : Chip) → start.changes ≡ 0 → MigratesOnly start new → IsReached new.setting.arm new.changes → HasFormat 1 start.now
 opens_within start new none only reached =
-    one_or _ (λ other. unreached new.setting.arm (subst (IsReached new.setting.arm) ((only.unwritten other).no_calls ∙ none) reached))
+    one_or _ (λ other. unreached new.setting.arm (subst (IsReached new.setting.arm) (ap (λ (n : CallCount). n.calls) (only.unwritten other).no_calls ∙ none) reached))
 
-opens_for : (start new : Chip) → start.changes ≡ 0 → MigratesOnly start new → OpensFor start.now new.changes
-opens_for start new none only = (omega (arith, only.most_calls, none), λ other. (only.unwritten other).no_calls ∙ none)
+opens_for : (start new : Chip) → count_of start ≡ (found_at start.now).count → MigratesOnly start new → OpensFor start.now new
+opens_for start new none only =
+    let uncalled : start.changes ≡ 0 = ap (λ (n : CallCount). n.calls) none in
+    let unerased : start.erases ≡ 0 = ap (λ (n : CallCount). n.erases) none in
+    let unprogrammed : start.octets ≡ 0 = ap (λ (n : CallCount). n.octets) none in
+    (omega (arith, only.most_calls, uncalled), omega (arith, only.most_erases, unerased), omega (arith, only.most_octets, unprogrammed), λ other. (only.unwritten other).no_calls ∙ none)
 
 -- a life that was run
 module _ {M F : Type 0} (view : M → MachineView) (stands : FlashFound → Chip → List StoreRecord → M → Type 0) (role : Role) (image : List ℕ → Type 0) (chip : F → Chip) (plan : List Step) (start : F) (node : NodeView F) (d : DrawerView) (log : LifeLog)
@@ -97,7 +104,8 @@ module _ {M F : Type 0} (view : M → MachineView) (stands : FlashFound → Chip
     (bearers : ℕ) (few : bearers ≤ 8) (many : length log.sends.items ≡ bearers)
     (explained : IsExplained (chip node.flash)) (given : node.stops ≡ 0 → HasGiven plan (chip node.flash).setting.arm)
     (arm : IsOfPlan plan (chip node.flash).setting.arm)
-    (placed : (over : List StoreRecord) → IsRecovered (chip start).now over → IfSome (chip node.flash).setting.arm (WasGiven view (stands (found_of (chip start))) chip over plan)) (calls : IfSome (cut_calls log.end) (λ n. n ≡ (chip node.flash).changes)) where
+    (placed : (over : List StoreRecord) → IsRecovered (chip start).now over → IfSome (chip node.flash).setting.arm (WasGiven view (stands (found_of (chip start))) chip over plan)) (calls : IfSome (cut_calls log.end) (λ n. n ≡ (chip node.flash).changes))
+    (saved : (chip node.flash).setting.saved ≡ (chip start).setting.saved) where
   begun_is : begun ≡ h.over
   begun_is = one (chip start).now begun h.over read (subst (λ s. IsRecovered (chip s).now h.over) is_start h.read)
 
@@ -107,8 +115,8 @@ module _ {M F : Type 0} (view : M → MachineView) (stands : FlashFound → Chip
       next mark order marks (subst (λ o. All (λ x. (config_of o).mark ≤ x) d.drawn) begun_is (subst (λ m. All (λ x. m ≤ x) d.drawn) firsts from)) below once seen
       (subst (λ m. All (IsEndOf m d.drawn) d.looks) (firsts ∙ ap (λ o. (config_of o).mark) begun_is) closes.ends)
 
-  pairs : PairsSo (life_of log).entries (life_of log).sends d
-  pairs = subst (λ es. PairsSo es (map (λ v. v.items) log.sends.items) d) (sym entries) over.pairs
+  pairs : PairsSo (life_of log).entries node.machine.moves (life_of log).sends d
+  pairs = subst (λ es. PairsSo es node.machine.moves (map (λ v. v.items) log.sends.items) d) (sym entries) over.pairs
 
   given_all : IsTrue (chip node.flash).steady → HasGiven plan (chip node.flash).setting.arm
   given_all steady = by_closed node.machine.closed refl where
@@ -131,15 +139,16 @@ module _ {M F : Type 0} (view : M → MachineView) (stands : FlashFound → Chip
     printable = record {
       entries = subst (λ es. length es < 2 ^ 32) (sym entries) h.life.few;
       bearers = omega (arith, many, few, length-map log.sends.items (λ v. v.items));
-      lines = sends_short node.machine.entries (map (λ v. v.items) log.sends.items) over.pairs.drawns d.looks h.life.few over.pairs.shown;
+      lines = sends_short node.machine.entries node.machine.moves (map (λ v. v.items) log.sends.items) over.pairs.drawns d.looks h.life.few over.pairs.shown;
     };
     later = subst (λ s. IsLater (chip s) (chip node.flash)) is_start h.later;
     cause = λ is. h.life.failed (sym cut ∙ is);
     no_fault = λ off. subst (λ s. (chip node.flash).faults ≡ (chip s).faults) is_start (h.no_fault (sym cut ∙ off));
     arm = arm;
+    saved = saved;
     calls = calls;
     drawn = subst (TellsDrawn (life_of log)) (sym drawn)
-        (tells_words (life_of log) d closed (ap is_on opened) (subst (Closes d closed) (sym (ap opened_at opened ∙ sym firsts)) closes) pairs
+        (tells_words (life_of log) node.machine.moves d closed (ap is_on opened) (subst (Closes d closed) (sym (ap opened_at opened ∙ sym firsts)) closes) pairs
         (subst (λ es. AreAsked es log.history.refills) (sym entries) (subst (AreAsked node.machine.entries) (sym refills) h.asked)));
     moved = λ off. subst (λ o. IfSome o (λ (words : ClosedView). HasMoved role h.over log.history.entries.items log.history.refills words.advances)) (sym drawn) (moved h.over read_over (sym cut ∙ off));
     armed = given_all;
@@ -153,27 +162,35 @@ module _ {M F : Type 0} (view : M → MachineView) (stands : FlashFound → Chip
     };
     paid = subst (λ m. IsLifeSoFar role image (found_of (chip start)) (chip node.flash) h.over m) (sym held.shows)
         (subst (λ s. IsLifeSoFar role image (found_of (chip s)) (chip node.flash) h.over node.machine) is_start h.life);
+    from = subst (λ (m : MachineView). All (All (IsFromMove (life_of log).entries m.moves)) (life_of log).sends) (sym held.shows)
+        (subst (λ (es : List Entry). All (All (IsFromMove es node.machine.moves)) (life_of log).sends) (sym entries)
+        (from_all node.machine.entries node.machine.moves (life_of log).sends over.pairs.drawns d.looks over.pairs.shown));
     on = ap is_on opened;
   }
 
 module _ {M F : Type 0} (view : M → MachineView) (stands : FlashFound → Chip → List StoreRecord → M → Type 0) (chip : F → Chip)
     (role : Role) (image : List ℕ → Type 0) (items : List PlanStep) (single : HasOneArm items) (old start : Chip) (left : F) (log : LifeLog)
     (is : old.images start.now) (began : start.setting.faults ≡ old.faults) (order : IsOfPlan (steps_of items) start.setting.arm) (first : start.setting.arm ≡ first_order items 0) (count : KeepsCount old start)
-    (cycled : start.setting.cycles ≡ old.setting.cycles + 1) (uncalled : start.changes ≡ 0) where
+    (cycled : start.setting.cycles ≡ old.setting.cycles + 1) (uncalled : count_of start ≡ (found_at start.now).count) (unread : start.reads ≡ 0) (as_read : start.setting.saved ≡ start.now) (out : (f : F) → IsCarriedOut (chip f)) where
   abbrev plan : List Step
   plan = steps_of items
 
   abbrev new : Chip
   new = chip left
 
+  -- it hasn't failed since power was given, so its order was carried out
+  carried_out : new.steady ≡ old.steady → new.setting.faults ≡ old.faults → new.faults ≡ old.faults → IsTrue old.steady → IsBeforeTorn new.setting.arm new.changes
+  carried_out same began faults steady = out left (subst IsTrue (sym same) steady) (omega (arith, faults, began))
+
   pub lives_ran : Ran view stands chip role image plan start log left → Lives view stands chip role image plan old log left
   lives_ran r =
       let now : new.setting.faults ≡ old.faults = r.later.began ∙ began in
-      let found : found_of start ≡ found_at start.now = ap (found_by start.now) uncalled in
+      let found = found_as start uncalled unread in
       record {
         over = r.over;
         image = start.now;
         is_image = is;
+        read = r.saved ∙ as_read;
         recovered = r.recovered;
         past = past_more old start new count.past r.later.past;
         life = r.life;
@@ -195,6 +212,8 @@ module _ {M F : Type 0} (view : M → MachineView) (stands : FlashFound → Chip
         moved = r.moved;
         armed = λ steady other. given_one items new.setting.arm single r.arm (r.armed (subst IsTrue (sym (r.later.steady ∙ count.steady)) steady));
         given = subst (λ f. IfSome new.setting.arm (WasGiven view (stands f) chip r.over plan)) found r.given;
+        carried = λ steady whole. carried_out (r.later.steady ∙ count.steady) now (r.no_fault whole ∙ count.faults) steady;
+        reads = omega (arith, r.paid.reads, unread);
         told = λ on. record {
           machine = r.told.machine;
           stood = subst (λ f. stands f new r.over r.told.machine) found r.told.stood;
@@ -203,17 +222,19 @@ module _ {M F : Type 0} (view : M → MachineView) (stands : FlashFound → Chip
           closed = r.told.closed;
         };
         paid = λ on. subst (λ f. IsLifeSoFar role image f new r.over (view r.told.machine)) found r.paid;
+        from = λ on. r.from;
         early = λ off. absurd (true≢false (sym r.on ∙ off));
       }
 
   -- a life that wasn't run
-  pub lives_idle : Keeps start new → (IsTrue old.steady → log.opened ≢ W.WasReset → IsGiven plan new.setting.arm) → (u : IsUntouched image start new) → is_on log.opened ≡ false → log.drawn ≡ None → log.history.entries.items ≡ [] → log.history.refills ≡ 0 → log.sends.items ≡ []
-      → Opens (config_of u.over) log.opened log.end → (is_cut log.end ≡ true → start.faults < new.faults) → (is_cut log.end ≡ false → new.faults ≡ start.faults) → IfSome (cut_calls log.end) (λ n. n ≡ new.changes) → OpensWithin old.steady start.now log → (log.opened ≡ W.CutAtStart → OpensFor start.now new.changes) → (log.opened ≡ W.WasReset → new.changes ≡ 0) → ((config_of u.over).reset ≡ true → log.opened ≡ W.CutAtStart → new.changes ≡ 0) → IsUnread log → Lives view stands chip role image plan old log left
-  lives_idle keeps armed u off none entries refills sends opening failed stays calls within costs reset cut_reset early =
+  pub lives_idle : Keeps start new → ReadsAtMost MOUNT_READS start new → (IsTrue old.steady → log.opened ≢ W.WasReset → IsGiven plan new.setting.arm) → (u : IsUntouched image start new) → is_on log.opened ≡ false → log.drawn ≡ None → log.history.entries.items ≡ [] → log.history.refills ≡ 0 → log.sends.items ≡ []
+      → Opens (config_of u.over) log.opened log.end → (is_cut log.end ≡ true → start.faults < new.faults) → (is_cut log.end ≡ false → new.faults ≡ start.faults) → IfSome (cut_calls log.end) (λ n. n ≡ new.changes) → OpensWithin old.steady start.now log → (log.opened ≡ W.CutAtStart → OpensFor start.now new) → (log.opened ≡ W.WasReset → count_of new ≡ (found_at start.now).count) → ((config_of u.over).reset ≡ true → log.opened ≡ W.CutAtStart → count_of new ≡ (found_at start.now).count) → IsUnread log → Lives view stands chip role image plan old log left
+  lives_idle keeps most armed u off none entries refills sends opening failed stays calls within costs reset cut_reset early =
       record {
         over = u.over;
         image = start.now;
         is_image = is;
+        read = ap (λ (s : Setting). s.saved) keeps.setting ∙ as_read;
         recovered = u.read;
         past = past_more old start new count.past keeps.past;
         life = λ content next among recovers. idle_life role plan u.over next (life_of log) off entries refills (ap (map (λ (v : Vec Sent Global). v.items)) sends) opening (u.left content next among recovers);
@@ -235,8 +256,11 @@ module _ {M F : Type 0} (view : M → MachineView) (stands : FlashFound → Chip
         moved = λ runs. subst (λ o. IfSome o (λ (words : ClosedView). HasMoved role u.over log.history.entries.items log.history.refills words.advances)) (sym none) tt;
         armed = armed;
         given = subst (λ o. IfSome o (WasGiven view (stands (found_at start.now)) chip u.over plan)) (sym (ap (λ (s : Setting). s.arm) keeps.setting ∙ first)) (given_first view (stands (found_at start.now)) chip u.over items);
+        carried = λ steady whole. carried_out (keeps.steady ∙ count.steady) (ap (λ (s : Setting). s.faults) keeps.setting ∙ began) (stays whole ∙ count.faults) steady;
+        reads = omega (arith, most, unread);
         told = λ on. absurd (true≢false (sym on ∙ off));
         paid = λ on. absurd (true≢false (sym on ∙ off));
+        from = λ on. absurd (true≢false (sym on ∙ off));
         early = λ off. early;
       }
 
@@ -248,18 +272,18 @@ module _ {M F : Type 0} (view : M → MachineView) (stands : FlashFound → Chip
       λ steady more calls mask among. reached_some new.setting.arm new.changes (explained (subst IsTrue (sym (keeps.steady ∙ count.steady)) steady) more) in
       let now : new.setting.faults < new.faults = subst (λ n. n < new.faults) (count.faults ∙ sym began ∙ sym (ap (λ (s : Setting). s.faults) keeps.setting)) failed in
       let order' : IsOfPlan plan new.setting.arm = subst (IsOfPlan plan) (sym (ap (λ (s : Setting). s.arm) keeps.setting)) order in
-      lives_idle keeps (λ steady other. given_one items new.setting.arm single order' (later steady now)) u (ap is_on opened) none entries refills sends
+      lives_idle keeps only.most_reads (λ steady other. given_one items new.setting.arm single order' (later steady now)) u (ap is_on opened) none entries refills sends
       (subst (λ o. Opens (config_of u.over) o log.end) (sym opened) (subst (λ e. Opens (config_of u.over) W.CutAtStart e) (sym end) cut_at_start))
       (λ cut. failed) (λ off. absurd (true≢false (sym (ap is_cut end) ∙ off))) (subst (λ e. IfSome (cut_calls e) (λ n. n ≡ new.changes)) (sym end) refl)
-      (λ steady cut. opens_within start new uncalled only (explained (subst IsTrue (sym (keeps.steady ∙ count.steady)) steady) now)) (λ cut. opens_for start new uncalled only)
+      (λ steady cut. opens_within start new (ap (λ (n : CallCount). n.calls) uncalled) only (explained (subst IsTrue (sym (keeps.steady ∙ count.steady)) steady) now)) (λ cut. opens_for start new uncalled only)
       (λ was. absurd (reset_or_cut (sym was ∙ opened)))
       (λ was cut. (untouched (record { over = u.over; read = u.read; reset = was })).no_calls ∙ uncalled) early
 
   -- there was a Node Reset
-  pub lives_reset : Keeps start new → IsUnwritten start new → new.faults ≡ start.faults → (u : IsUntouched image start new) → (config_of u.over).reset ≡ true → log.opened ≡ W.WasReset → log.end ≡ Ends.Ended
+  pub lives_reset : Keeps start new → ReadsAtMost MOUNT_READS start new → IsUnwritten start new → new.faults ≡ start.faults → (u : IsUntouched image start new) → (config_of u.over).reset ≡ true → log.opened ≡ W.WasReset → log.end ≡ Ends.Ended
       → log.drawn ≡ None → log.history.entries.items ≡ [] → log.history.refills ≡ 0 → log.sends.items ≡ [] → IsUnread log → Lives view stands chip role image plan old log left
-  lives_reset keeps unwritten same u reset opened end none entries refills sends early =
-      lives_idle keeps (λ steady other. absurd (other opened)) u (ap is_on opened) none entries refills sends
+  lives_reset keeps most unwritten same u reset opened end none entries refills sends early =
+      lives_idle keeps most (λ steady other. absurd (other opened)) u (ap is_on opened) none entries refills sends
       (subst (λ o. Opens (config_of u.over) o log.end) (sym opened) (subst (λ e. Opens (config_of u.over) W.WasReset e) (sym end) (was_reset reset)))
       (λ cut. absurd (true≢false (sym cut ∙ ap is_cut end))) (λ off. same) (subst (λ e. IfSome (cut_calls e) (λ n. n ≡ new.changes)) (sym end) tt)
       (λ steady cut. absurd (reset_or_cut (sym opened ∙ cut))) (λ cut. absurd (reset_or_cut (sym opened ∙ cut))) (λ was. unwritten.no_calls ∙ uncalled) (λ was cut. absurd (reset_or_cut (sym opened ∙ cut))) early

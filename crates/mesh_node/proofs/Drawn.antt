@@ -20,9 +20,9 @@ use Rattle.life_laws.proofs.Pairing.{sum_up, within_drawn}
 use Rattle.mesh_node.specs.Drawn.{AreWordsOf, IsSpentBy, TellsWords, opened_at}
 use Rattle.mesh_node.specs.Left.{Closes}
 
-pub words_of : (l : Life) (d : DrawerView) (words : List ℕ) → words ≡ d.drawn → AllPairs (λ x y. x ≢ y) d.drawn → PairsSo l.entries l.sends d → AreWordsOf words (draws (shown l))
-words_of l d words is apart h =
-    let sum : map word_of (draws (shown l)) ≡ all_of h.drawns = (sum_up l.entries l.sends h.drawns d.looks h.shown).drawing in
+pub words_of : (l : Life) (moves : List ℕ) (d : DrawerView) (words : List ℕ) → words ≡ d.drawn → AllPairs (λ x y. x ≢ y) d.drawn → PairsSo l.entries moves l.sends d → AreWordsOf words (draws (shown l))
+words_of l moves d words is apart h =
+    let sum : map word_of (draws (shown l)) ≡ all_of h.drawns = (sum_up l.entries moves l.sends h.drawns d.looks h.shown).drawing in
     let whole : (y : ℕ) → times y (all_of (d.drawn ∷ [])) ≡ times y (all_of h.drawns) = λ y. ap (times y) (append-nil d.drawn) ∙ sym (h.counted y) in
     let same : AreWordsOf d.drawn (draws (shown l)) = record {
       once = apart;
@@ -34,8 +34,8 @@ words_of l d words is apart h =
     subst (λ ws. AreWordsOf ws (draws (shown l))) (sym is) same
 
 -- what the lines say to be spent was seen at the seats
-pub spent_of : (l : Life) (d : DrawerView) (looks : List Look) → looks ≡ d.looks → PairsSo l.entries l.sends d → All (λ s. IsSpentSeen looks s.outcome) (shown l)
-spent_of l d looks are h = subst (λ ls. All (λ s. IsSpentSeen ls s.outcome) (shown l)) (sym are) (sum_up l.entries l.sends h.drawns d.looks h.shown).spent
+pub spent_of : (l : Life) (moves : List ℕ) (d : DrawerView) (looks : List Look) → looks ≡ d.looks → PairsSo l.entries moves l.sends d → All (λ s. IsSpentSeen looks s.outcome) (shown l)
+spent_of l moves d looks are h = subst (λ ls. All (λ s. IsSpentSeen ls s.outcome) (shown l)) (sym are) (sum_up l.entries moves l.sends h.drawns d.looks h.shown).spent
 
 -- and its last number was drawn, or the counter was opened behind it
 spent_by : (first : ℕ) (words : List ℕ) (looks : List Look) → All (IsEndOf first words) looks → (o : Outcome) → IsSpentSeen looks o → IsSpentBy first words o
@@ -43,14 +43,14 @@ spent_by first words looks ends (O.Spent iv) h =
     All-contains (IsEndOf first words) looks (saw.Counter (iv * 2 ^ 25 + 2 ^ 24)) ends h (omega arith)
 spent_by first words looks ends o h = tt
 
-pub tells_words : (l : Life) (d : DrawerView) (closed : ClosedView) → is_on l.opened ≡ true → Closes d closed (opened_at l.opened) → PairsSo l.entries l.sends d → AreAsked l.entries l.refills → TellsWords l closed
-tells_words l d closed on h pairs asked =
-    let seen = spent_of l d closed.looks h.looks pairs in
+pub tells_words : (l : Life) (moves : List ℕ) (d : DrawerView) (closed : ClosedView) → is_on l.opened ≡ true → Closes d closed (opened_at l.opened) → PairsSo l.entries moves l.sends d → AreAsked l.entries l.refills → TellsWords l closed
+tells_words l moves d closed on h pairs asked =
+    let seen = spent_of l moves d closed.looks h.looks pairs in
     let ends : All (IsEndOf (opened_at l.opened) closed.drawn) closed.looks =
     subst (λ ws. All (IsEndOf (opened_at l.opened) ws) closed.looks) (sym h.drawn) (subst (All (IsEndOf (opened_at l.opened) d.drawn)) (sym h.looks) h.ends) in
     record {
       ran = on;
-      words = words_of l d closed.drawn h.drawn h.apart pairs;
+      words = words_of l moves d closed.drawn h.drawn h.apart pairs;
       since = subst (All (λ x. opened_at l.opened ≤ x)) (sym h.drawn) h.since;
       spent = seen;
       own = subst (HasOwnLooks (ends_told (shown l))) (sym h.looks) pairs.own;

@@ -40,7 +40,7 @@ pub going_first : {F : Type 0} (node : NodeView F) (d : DrawerView) (n : ℕ) (s
 going_first node d n sends counts entries live drawn no_sends no_counts =
     let first : IsGoing [] node d (replicate n []) (replicate n 0) = record {
       done = subst (λ es. AreDone [] es (replicate n []) (replicate n 0)) (sym entries) (none_done (replicate n []) (replicate n 0) (empty_at n) (zero_at n));
-      pairs = subst (λ es. PairsSo es (replicate n []) d) (sym entries) (record { drawns = replicate n []; shown = no_pairs n d.looks; counted = λ x. ap (times x) (empty_all n ∙ sym drawn); own = no_ends n d.looks });
+      pairs = subst (λ es. PairsSo es node.machine.moves (replicate n []) d) (sym entries) (record { drawns = replicate n []; shown = no_pairs n node.machine.moves d.looks; counted = λ x. ap (times x) (empty_all n ∙ sym drawn); own = no_ends n d.looks });
       handled = subst (AreHandledAll []) (sym entries) (λ k. refl);
       live = live;
       many = length-replicate n [] ∙ sym (length-replicate n 0);

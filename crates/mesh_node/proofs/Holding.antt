@@ -13,9 +13,11 @@ use Rattle.locked_node.specs.Node.{NodeView}
 use Rattle.locked_node.specs.Stands.{IsNode}
 use Rattle.life_laws.specs.Phases.{both_of}
 use Rattle.mesh_node.specs.Going.{AreTold, IsGoing, IsOver}
+use Rattle.mesh_node.specs.Due.{is_any}
 use Rattle.mesh_node.specs.Held.{HeldView, HasLived, given_phases, last_held, told_phases}
 use Rattle.mesh_node.specs.Lived.{FellShort, WentOn}
-use Rattle.mesh_node.specs.Told.{AreToldEach, BySteps, IsPartDone, PhaseDid, entries_told, sends_told}
+use Rattle.mesh_node.specs.Told.{AreToldEach, BySteps, GivesEach, IsPartDone, PhaseDid, entries_told, sends_told}
+use Rattle.mesh_node.proofs.Asking.{due_any}
 use Rattle.mesh_node.proofs.Following.{going_first, over_whole}
 use Rattle.mesh_node.proofs.Stepping.{length_both}
 use Rattle.mesh_node.proofs.Telling.{each_last, each_more, entries_more, placed_more, sends_more}
@@ -28,6 +30,16 @@ held_view node numbers drawer counts = record { node = node; numbers = numbers; 
 pub all_listed : {A : Type 0} (old xs : List A) → BySteps (λ (front : List A) (x : A) (now : List A). now ≡ front ++ x ∷ []) old xs (old ++ xs)
 all_listed old [] = append-nil old
 all_listed {A} old (x ∷ xs) = (old ++ x ∷ [], refl, subst (BySteps (λ (front : List A) (y : A) (now : List A). now ≡ front ++ y ∷ []) (old ++ x ∷ []) xs) (append_assoc old (x ∷ []) xs) (all_listed (old ++ x ∷ []) xs))
+
+-- each of the phases that the owner gave, of which it was told no number
+abbrev no_dues : List (List (List Event)) → List ℕ
+no_dues [] = []
+no_dues (p ∷ phases) = 0 ∷ no_dues phases
+
+all_given : (bearers elements : ℕ) (old phases : List (List (List Event))) → GivesEach given_phases bearers elements old (no_dues phases) phases (old ++ phases)
+all_given bearers elements old [] = append-nil old
+all_given bearers elements old (p ∷ phases) =
+    (old ++ p ∷ [], refl, subst (GivesEach given_phases bearers elements (old ++ p ∷ []) (no_dues phases) phases) (append_assoc old (p ∷ []) phases) (all_given bearers elements (old ++ p ∷ []) phases))
 
 module _ {F : Type 0} (role : Role) (image : List ℕ → Type 0) (chip : F → Chip) where
   -- before the first phase
@@ -82,13 +94,15 @@ module _ {F : Type 0} (role : Role) (image : List ℕ → Type 0) (chip : F → 
       }
 
     -- Memory ran out in a phase of these events.
-    pub held_short : (usable : life.node.machine.closed ≡ false) (events : List (List Event)) → FellShort role given_phases told_phases [] (phases ++ events ∷ []) [] did (chip life.node.start)
+    pub held_short : (usable : life.node.machine.closed ≡ false) (events : List (List Event)) → FellShort role is_any given_phases told_phases [] (phases ++ events ∷ []) [] did 1 (chip life.node.start)
     held_short usable events = record {
       phases = phases;
       in_hand = events ∷ [];
       one = omega arith;
       did = did;
-      gave = all_listed [] (phases ++ events ∷ []);
+      dues = no_dues (phases ++ events ∷ []);
+      gave = all_given 1 (config_of h.known.over).elements [] (phases ++ events ∷ []);
+      due = due_any [] (no_dues (phases ++ events ∷ [])) did;
       took = all_listed [] did;
       placed = h.placed;
       each = subst (λ b. AreToldEach b phases did) usable h.each;
@@ -100,11 +114,13 @@ module _ {F : Type 0} (role : Role) (image : List ℕ → Type 0) (chip : F → 
     }
 
     -- its owner has no phase more
-    pub held_went : (b : Bool) → life.node.machine.closed ≡ b → WentOn given_phases told_phases [] phases [] did 1 life.node life.drawer life.node.flash (last_held b) life.node.machine.closed
+    pub held_went : (b : Bool) → life.node.machine.closed ≡ b → WentOn is_any given_phases told_phases [] phases [] did 1 life.node life.drawer life.node.flash (last_held b) life.node.machine.closed
     held_went true on = record {
       phases = phases;
       did = did;
-      gave = all_listed [] phases;
+      dues = no_dues phases;
+      gave = all_given 1 life.node.machine.elements [] phases;
+      due = due_any [] (no_dues phases) did;
       took = all_listed [] did;
       over = h.ordered;
       told = h.told;
@@ -117,7 +133,9 @@ module _ {F : Type 0} (role : Role) (image : List ℕ → Type 0) (chip : F → 
     held_went false off = record {
       phases = phases;
       did = did;
-      gave = (phases, all_listed [] phases, refl);
+      dues = no_dues phases;
+      gave = (phases, all_given 1 life.node.machine.elements [] phases, refl);
+      due = due_any [] (no_dues phases) did;
       took = all_listed [] did;
       over = h.ordered;
       told = h.told;

@@ -8,6 +8,7 @@ pub mod Placed
 pub mod Printing
 pub mod Drawn
 pub mod Closing
+pub mod Asking
 pub mod Telling
 pub mod Whole
 pub mod Phasing

@@ -27,7 +27,7 @@ use Rattle.mesh_node.specs.Steps.{IsSameNode}
 use Rattle.mesh_node.specs.Told.{IsPartDone, IsPrintablePhase, did_of, part_told}
 use Rattle.mesh_node.specs.declared.phases.Seats.{Seats}
 use Rattle.mesh_node.specs.declared.told.PhaseLog.{PhaseLog}
-use Rattle.mesh_node.proofs.Stepping.{going_more, over_by, same_arm, same_node, same_saved}
+use Rattle.mesh_node.proofs.Stepping.{going_more, over_by, same_arm, same_called, same_node, same_saved}
 use Rattle.mesh_node.proofs.Telling.{closed_by, drop_front, going_taken, over_taken, phase_short, taken_of, told_more}
 
 -- a phase, the seats before and behind it, and what was taken of the node
@@ -75,6 +75,12 @@ module _ {F M Reader Reading : Type 0} {role : Role} {image : List ℕ → Type 
   pub saved_is : (chip left.flash).setting.saved ≡ (chip old.flash).setting.saved
   saved_is = ap (λ (n : NodeView F). (chip n.flash).setting.saved) p.taken ∙ (same_saved chip old new p.origin).0
 
+  pub called_is : (chip left.flash).setting.called ≡ (chip old.flash).setting.called
+  called_is = ap (λ (n : NodeView F). (chip n.flash).setting.called) p.taken ∙ same_called chip old new p.origin
+
+  pub moment_is : (chip left.flash).setting.moment ≡ (chip old.flash).setting.moment
+  moment_is = ap (λ (n : NodeView F). (chip n.flash).setting.moment) p.taken ∙ (same_saved chip old new p.origin).1
+
   none_is : closed ≡ false → new.stops ≡ 0
   none_is off = none_stopped old new before.drawer e events before.counts.items dones p.was p.between.live (p.through off)
 
@@ -94,7 +100,7 @@ module _ {F M Reader Reading : Type 0} {role : Role} {image : List ℕ → Type 
       subst (IsNode role image chip) (sym p.taken) (record {
         over = k.over;
         read = k.read;
-        life = record { told = l.told; entries = l.entries; handled = l.handled; few = l.few; elements = l.elements; node = l.node; left = l.left; idle = l.idle; failed = l.failed; in_hand = l.in_hand; hand = l.hand; paid = l.paid };
+        life = record { told = l.told; entries = l.entries; handled = l.handled; moves = l.moves; few = l.few; elements = l.elements; node = l.node; left = l.left; idle = l.idle; failed = l.failed; in_hand = l.in_hand; hand = l.hand; paid = l.paid; reads = l.reads };
         few = k.few;
         live = k.live;
         stopped = k.stopped;
@@ -153,7 +159,7 @@ module _ {F M Reader Reading : Type 0} {role : Role} {image : List ℕ → Type 
   pub part_done : IsPartDone closed events (did_of log)
   part_done = record {
     all = λ off k. subst (λ part. Does events part k []) part_is (subst (Does events (part_of old new dones) k) ((does k).all (p.through off)) (does k).does);
-    some = λ k. ((does k).left, subst (λ part. Does events part k (does k).left) part_is (does k).does);
+    some = λ k. record { left = (does k).left; does = subst (λ part. Does events part k (does k).left) part_is (does k).does; stuck = (does k).stuck };
   }
 
   module _ (phases : List (List (List Event))) (sends : List (List Sent)) (h : IsGoing phases old before.drawer sends before.counts.items) where
@@ -163,7 +169,7 @@ module _ {F M Reader Reading : Type 0} {role : Role} {image : List ℕ → Type 
         record {
           entries = omega (arith, p.first, p.between.count, long_is, p.known.life.few);
           bearers = subst (λ n. n ≤ BEARERS) (sym (ap length p.sends ∙ lines_many)) p.between.few;
-          lines = subst (All (All IsShort)) (sym p.sends) (phase_short new.machine.entries sends (map lines_of dones) pairs.drawns e.looks p.known.life.few pairs.shown (omega (arith, lines_many, h.many)));
+          lines = subst (All (All IsShort)) (sym p.sends) (phase_short new.machine.entries new.machine.moves sends (map lines_of dones) pairs.drawns e.looks p.known.life.few pairs.shown (omega (arith, lines_many, h.many)));
         }
 
     pub going_is : closed ≡ false → IsGoing (phases ++ events ∷ []) left now.drawer (both_of sends (map (λ v. v.items) log.sends.items)) now.counts.items

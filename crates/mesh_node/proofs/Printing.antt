@@ -33,12 +33,12 @@ lines_short es (s ∷ lines) (y ∷ shows) few h short =
     All-cons IsShort s lines (up_to s.entry (length es) (2 ^ 32) (entry_there es s y (slice_get es s.entry) refl head) few, All-head (λ x. x.job + 1 < 2 ^ 8) s lines short)
     (lines_short es lines shows few tail (All-tail (λ x. x.job + 1 < 2 ^ 8) s lines short))
 
-pub sends_short : (es : List Entry) (sends : List (List Sent)) (drawns : List (List ℕ)) (looks : List Look) → length es < 2 ^ 32 → AreShownBy es sends drawns looks → All (All IsShort) sends
-sends_short es [] [] looks few h = All-nil (All IsShort)
-sends_short es [] (w ∷ drawns) looks few h = absurd h
-sends_short es (s ∷ sends) [] looks few h = absurd h
-sends_short es (s ∷ sends) (w ∷ drawns) looks few h =
-    All-cons (All IsShort) s sends (lines_short es s h.0.shows few h.0.found h.0.short) (sends_short es sends drawns looks few h.2)
+pub sends_short : (es : List Entry) (ms : List ℕ) (sends : List (List Sent)) (drawns : List (List ℕ)) (looks : List Look) → length es < 2 ^ 32 → AreShownBy es ms sends drawns looks → All (All IsShort) sends
+sends_short es ms [] [] looks few h = All-nil (All IsShort)
+sends_short es ms [] (w ∷ drawns) looks few h = absurd h
+sends_short es ms (s ∷ sends) [] looks few h = absurd h
+sends_short es ms (s ∷ sends) (w ∷ drawns) looks few h =
+    All-cons (All IsShort) s sends (lines_short es s h.0.shows few h.0.found h.0.short) (sends_short es ms sends drawns looks few h.2)
 
 -- a life that wasn't run
 pub idle_printable : (life : Life) → life.entries ≡ [] → life.sends ≡ [] → IsPrintable life

@@ -75,6 +75,9 @@ module _ {F : Type 0} (chip : F → Chip) (old new : NodeView F) (origin : origi
   pub same_saved : ((chip new.flash).setting.saved ≡ (chip old.flash).setting.saved) × ((chip new.flash).setting.moment ≡ (chip old.flash).setting.moment)
   same_saved = (ap (λ o. o.saved) origin, ap (λ o. o.moment) origin)
 
+  pub same_called : (chip new.flash).setting.called ≡ (chip old.flash).setting.called
+  same_called = ap (λ o. o.called) origin
+
 -- another flash makes no other node
 pub other_flash : {F : Type 0} (old new : NodeView F) (flash : F) → new ≡ record old { flash = flash } → IsSameNode old new
 other_flash old new flash frame = record { start = ap (λ v. v.start) frame; which = ap (λ v. v.machine.which) frame; elements = ap (λ v. v.machine.elements) frame }

@@ -18,8 +18,9 @@ use Rattle.locked_node.specs.Node.{NodeView}
 use Rattle.life_laws.specs.Phases.{PhasesDone, both_of}
 use Rattle.life_laws.proofs.Placing.{CameTo}
 use Rattle.mesh_node.specs.Going.{AreTold, IsGoing, IsOver}
+use Rattle.mesh_node.specs.Due.{AreDue}
 use Rattle.mesh_node.specs.Lived.{FellShort, IsUnderWay, WentOn}
-use Rattle.mesh_node.specs.Told.{ArePlaced, AreToldEach, BySteps, GivesNone, IsLastTold, IsPartDone, PhaseDid, SinkSteps, SourceSteps, entries_told, more_sends, part_told, sends_told}
+use Rattle.mesh_node.specs.Told.{ArePlaced, AreToldEach, BySteps, GivesEach, GivesNone, IsLastTold, IsPartDone, PhaseDid, SinkSteps, SourceSteps, entries_told, more_sends, part_told, sends_told}
 use Rattle.mesh_node.specs.Lives.{IsShort}
 use Rattle.mesh_node.specs.declared.told.LastStep.{LastStep}
 use Rattle.mesh_node.specs.declared.told.LastStep.TheVariants as L
@@ -27,6 +28,7 @@ use Rattle.mesh_node.proofs.Printing.{sends_short}
 use Rattle.mesh_node.proofs.Stepping.{length_both}
 use Rattle.seq_word.specs.declared.looks.Look.{Look}
 use Rattle.life_laws.specs.Pairs.{AreShownBy}
+use Rattle.mesh_node.proofs.Asking.{due_more, due_still, given_many, gives_more}
 use Rattle.mesh_node.proofs.Following.{going_first, over_whole}
 
 pub steps_more : {S A : Type 0} (step : S → A → S → Type 0) (old : S) (xs : List A) (mid : S) (x : A) (new : S) → BySteps step old xs mid → step mid x new → BySteps step old (xs ++ x ∷ []) new
@@ -92,8 +94,8 @@ both_short (x ∷ xs) [] h few = All-nil (All IsShort)
 both_short (x ∷ xs) (y ∷ ys) h few =
     All-cons (All IsShort) y ys (all_behind IsShort x y (All-head (All IsShort) (x ++ y) (both_of xs ys) h)) (both_short xs ys (All-tail (All IsShort) (x ++ y) (both_of xs ys) h) (omega (arith, few)))
 
-pub phase_short : (es : List Entry) (sends lines : List (List Sent)) (drawns : List (List ℕ)) (looks : List Look) → length es < 2 ^ 32 → AreShownBy es (both_of sends lines) drawns looks → length lines ≤ length sends → All (All IsShort) lines
-phase_short es sends lines drawns looks few h long = both_short sends lines (sends_short es (both_of sends lines) drawns looks few h) long
+pub phase_short : (es : List Entry) (ms : List ℕ) (sends lines : List (List Sent)) (drawns : List (List ℕ)) (looks : List Look) → length es < 2 ^ 32 → AreShownBy es ms (both_of sends lines) drawns looks → length lines ≤ length sends → All (All IsShort) lines
+phase_short es ms sends lines drawns looks few h long = both_short sends lines (sends_short es ms (both_of sends lines) drawns looks few h) long
 
 -- behind a phase more there is one
 not_none : {A : Type 0} (xs : List A) (x : A) → xs ++ x ∷ [] ≡ [] → ⊥
@@ -129,17 +131,22 @@ each_last closed phases events did d same h part true on = record {
 }
 each_last closed phases events did d same h part false off = each_whole false (phases ++ events ∷ []) (did ++ d ∷ []) (count_more phases events did d same) (each_more phases events did d h (part.all off))
 
-module _ {F S T : Type 0} (source : SourceSteps S) (sink : SinkSteps T) (from to : S) (began now : T) (bearers : ℕ) (node : NodeView F) (d : DrawerView) (opened : F) (counts : List ℕ) (long : length counts ≡ bearers) where
+module _ {F S T : Type 0} (IsDue : List Entry → ℕ → Type 0) (source : SourceSteps S) (sink : SinkSteps T) (from to : S) (began now : T) (bearers : ℕ) (node : NodeView F) (d : DrawerView) (opened : F) (counts : List ℕ) (long : length counts ≡ bearers) where
   -- where the source gave no phase more
-  module _ (h : IsUnderWay source sink from to began now bearers node d opened counts) (usable : node.machine.closed ≡ false) (after : S) where
+  module _ (h : IsUnderWay IsDue source sink from to began now bearers node d opened counts) (usable : node.machine.closed ≡ false) (after : S) where
+    asked_each : length h.dues ≡ length h.did
+    asked_each = given_many source bearers node.machine.elements from h.dues h.phases to h.gave ∙ sym h.count
+
     over_here : IsOver h.phases node d (sends_told bearers h.did)
     over_here = over_whole h.phases node d (sends_told bearers h.did) counts h.going
 
-    pub went_ended : source.ends to after → WentOn source sink from after began now bearers node d opened L.Ended node.machine.closed
+    pub went_ended : source.ends to after → WentOn IsDue source sink from after began now bearers node d opened L.Ended node.machine.closed
     went_ended end = record {
       phases = h.phases;
       did = h.did;
+      dues = h.dues;
       gave = (to, h.gave, end);
+      due = h.due;
       took = h.took;
       over = over_here;
       told = h.told;
@@ -150,11 +157,13 @@ module _ {F S T : Type 0} (source : SourceSteps S) (sink : SinkSteps T) (from to
       idle = h.idle;
     }
 
-    pub went_unread : source.fails bearers node.machine.elements to after → WentOn source sink from after began now bearers node d opened L.Unread node.machine.closed
-    went_unread end = record {
+    pub went_unread : (due : ℕ) → IsDue (entries_told h.did) due → source.fails bearers node.machine.elements due to after → WentOn IsDue source sink from after began now bearers node d opened L.Unread node.machine.closed
+    went_unread due is end = record {
       phases = h.phases;
       did = h.did;
-      gave = (to, h.gave, end);
+      dues = h.dues ++ due ∷ [];
+      gave = record { before = h.dues; due = due; is = refl; mid = to; gave = h.gave; failed = end };
+      due = due_more IsDue [] h.dues h.did due asked_each h.due is;
       took = h.took;
       over = over_here;
       told = h.told;
@@ -165,17 +174,29 @@ module _ {F S T : Type 0} (source : SourceSteps S) (sink : SinkSteps T) (from to
       idle = h.idle;
     }
 
-    pub went_none : (last : LastStep) → GivesNone source bearers node.machine.elements last to after → WentOn source sink from after began now bearers node d opened last node.machine.closed
-    went_none L.Ended end = went_ended end
-    went_none L.Unread end = went_unread end
-    went_none L.Cut end = absurd end
-    went_none L.Untold end = absurd end
+    pub went_none : (due : ℕ) → IsDue (entries_told h.did) due → (last : LastStep) → GivesNone source bearers node.machine.elements due last to after → WentOn IsDue source sink from after began now bearers node d opened last node.machine.closed
+    went_none due is L.Ended end = went_ended end
+    went_none due is L.Unread end = went_unread due is end
+    went_none due is L.Cut end = absurd end
+    went_none due is L.Untold end = absurd end
 
   -- behind one phase more
-  module _ (h : IsUnderWay source sink from to began now bearers node d opened counts) (events : List (List Event)) (did : PhaseDid) (next : NodeView F) (e : DrawerView) (later : List ℕ) (closed : Bool) (after : S) (then : T)
-      (gave : source.gives to events after) (first : did.first ≡ length node.machine.entries) (size : length did.sends ≡ length counts) (part : IsPartDone closed events did) (told : AreTold (entries_told h.did ++ did.entries) next)
+  module _ (h : IsUnderWay IsDue source sink from to began now bearers node d opened counts) (due : ℕ) (is_due : IsDue (entries_told h.did) due) (events : List (List Event)) (did : PhaseDid) (next : NodeView F) (e : DrawerView) (later : List ℕ) (closed : Bool) (after : S) (then : T)
+      (gave : source.gives bearers node.machine.elements due to events after) (same : next.machine.elements ≡ node.machine.elements) (first : did.first ≡ length node.machine.entries) (size : length did.sends ≡ length counts) (part : IsPartDone closed events did) (told : AreTold (entries_told h.did ++ did.entries) next)
       (going : closed ≡ false → IsGoing (h.phases ++ events ∷ []) next e (both_of (sends_told bearers h.did) did.sends) later)
       (over : closed ≡ true → IsOver (h.phases ++ events ∷ []) next e (both_of (sends_told bearers h.did) did.sends)) (is : closed ≡ next.machine.closed) where
+    gave_all : GivesEach source bearers next.machine.elements from (h.dues ++ due ∷ []) (h.phases ++ events ∷ []) after
+    gave_all = subst (λ n. GivesEach source bearers n from (h.dues ++ due ∷ []) (h.phases ++ events ∷ []) after) (sym same)
+        (gives_more source bearers node.machine.elements from h.dues h.phases to due events after h.gave gave)
+
+    asked_all : length h.dues ≡ length h.did
+    asked_all = given_many source bearers node.machine.elements from h.dues h.phases to h.gave ∙ sym h.count
+
+    due_all : AreDue IsDue [] (h.dues ++ due ∷ []) (h.did ++ did ∷ [])
+    due_all =
+        let long : length (h.dues ++ due ∷ []) ≡ length h.dues + 1 = length-append h.dues (due ∷ []) in
+        due_still IsDue [] (h.dues ++ due ∷ []) h.did did (omega (arith, long, asked_all)) (due_more IsDue [] h.dues h.did due asked_all h.due is_due)
+
     sends_are : both_of (sends_told bearers h.did) did.sends ≡ sends_told bearers (h.did ++ did ∷ [])
     sends_are = sym (sends_more (replicate bearers []) h.did did)
 
@@ -188,11 +209,13 @@ module _ {F S T : Type 0} (source : SourceSteps S) (sink : SinkSteps T) (from to
     many_all : length (sends_told bearers (h.did ++ did ∷ [])) ≡ bearers
     many_all = ap length (sym sends_are) ∙ length_both (sends_told bearers h.did) did.sends (h.going.many ∙ sym size) ∙ h.going.many ∙ long
 
-    pub goes_more : closed ≡ false → sink.takes now did then → IsUnderWay source sink from after began then bearers next e opened later
+    pub goes_more : closed ≡ false → sink.takes now did then → IsUnderWay IsDue source sink from after began then bearers next e opened later
     goes_more off took = record {
       phases = h.phases ++ events ∷ [];
       did = h.did ++ did ∷ [];
-      gave = steps_more source.gives from h.phases to events after h.gave gave;
+      dues = h.dues ++ due ∷ [];
+      gave = gave_all;
+      due = due_all;
       took = steps_more sink.takes began h.did now did then h.took took;
       going = subst (λ ss. IsGoing (h.phases ++ events ∷ []) next e ss later) sends_are (going off);
       told = told_all;
@@ -209,11 +232,13 @@ module _ {F S T : Type 0} (source : SourceSteps S) (sink : SinkSteps T) (from to
     over_all true on = subst (IsOver (h.phases ++ events ∷ []) next e) sends_are (over on)
     over_all false off = subst (IsOver (h.phases ++ events ∷ []) next e) sends_are (over_whole (h.phases ++ events ∷ []) next e (both_of (sends_told bearers h.did) did.sends) later (going off))
 
-    pub went_cut : closed ≡ true → sink.takes now did then → WentOn source sink from after began then bearers next e opened L.Cut next.machine.closed
+    pub went_cut : closed ≡ true → sink.takes now did then → WentOn IsDue source sink from after began then bearers next e opened L.Cut next.machine.closed
     went_cut on took = record {
       phases = h.phases ++ events ∷ [];
       did = h.did ++ did ∷ [];
-      gave = steps_more source.gives from h.phases to events after h.gave gave;
+      dues = h.dues ++ due ∷ [];
+      gave = gave_all;
+      due = due_all;
       took = steps_more sink.takes began h.did now did then h.took took;
       over = over_all true on;
       told = told_all;
@@ -224,11 +249,13 @@ module _ {F S T : Type 0} (source : SourceSteps S) (sink : SinkSteps T) (from to
       idle = λ none. absurd (not_none h.phases events none);
     }
 
-    pub went_untold : sink.fails now did then → WentOn source sink from after began then bearers next e opened L.Untold next.machine.closed
+    pub went_untold : sink.fails now did then → WentOn IsDue source sink from after began then bearers next e opened L.Untold next.machine.closed
     went_untold failed = record {
       phases = h.phases ++ events ∷ [];
       did = h.did ++ did ∷ [];
-      gave = steps_more source.gives from h.phases to events after h.gave gave;
+      dues = h.dues ++ due ∷ [];
+      gave = gave_all;
+      due = due_all;
       took = record { before = h.did; last = did; is = refl; mid = now; took = h.took; failed = failed };
       over = over_all closed refl;
       told = told_all;
@@ -239,7 +266,7 @@ module _ {F S T : Type 0} (source : SourceSteps S) (sink : SinkSteps T) (from to
       idle = λ none. absurd (not_none h.phases events none);
     }
 
-    pub went_last : (last : LastStep) → IsLastTold sink last closed now did then → WentOn source sink from after began then bearers next e opened last next.machine.closed
+    pub went_last : (last : LastStep) → IsLastTold sink last closed now did then → WentOn IsDue source sink from after began then bearers next e opened last next.machine.closed
     went_last L.Ended bad = absurd bad
     went_last L.Unread bad = absurd bad
     went_last L.Cut took = went_cut took.0 took.1
@@ -251,12 +278,14 @@ on_err (Ok x) p = tt
 on_err (Err e) p = p
 
 -- before the first phase
-pub first_goes : {F S T : Type 0} (source : SourceSteps S) (sink : SinkSteps T) (from : S) (began : T) (bearers : ℕ) (node : NodeView F) (d : DrawerView) (counts : List ℕ)
-    → node.machine.entries ≡ [] → node.machine.taken ≡ length node.machine.entries → node.stops ≡ 0 → d.drawn ≡ [] → counts ≡ replicate bearers 0 → IsUnderWay source sink from from began began bearers node d node.flash counts
-first_goes source sink from began bearers node d counts none taken live drawn zeros = record {
+pub first_goes : {F S T : Type 0} (IsDue : List Entry → ℕ → Type 0) (source : SourceSteps S) (sink : SinkSteps T) (from : S) (began : T) (bearers : ℕ) (node : NodeView F) (d : DrawerView) (counts : List ℕ)
+    → node.machine.entries ≡ [] → node.machine.taken ≡ length node.machine.entries → node.stops ≡ 0 → d.drawn ≡ [] → counts ≡ replicate bearers 0 → IsUnderWay IsDue source sink from from began began bearers node d node.flash counts
+first_goes IsDue source sink from began bearers node d counts none taken live drawn zeros = record {
   phases = [];
   did = [];
+  dues = [];
   gave = refl;
+  due = tt;
   took = refl;
   going = going_first node d bearers (replicate bearers []) counts none live drawn refl zeros;
   told = record { entries_are = none; taken = taken };
@@ -267,18 +296,20 @@ first_goes source sink from began bearers node d counts none taken live drawn ze
 }
 
 -- Memory ran out, before a phase came, or in one.
-module _ {F S T : Type 0} {role : Role} {image : List ℕ → Type 0} {chip : F → Chip} (source : SourceSteps S) (sink : SinkSteps T) (from to : S) (began now : T) (bearers : ℕ) (node : NodeView F) (d : DrawerView) (opened : F) (counts : List ℕ)
-    (known : IsNode role image chip node) (start : F) (is_start : node.start ≡ start) (h : IsUnderWay source sink from to began now bearers node d opened counts) where
+module _ {F S T : Type 0} {role : Role} {image : List ℕ → Type 0} {chip : F → Chip} (IsDue : List Entry → ℕ → Type 0) (source : SourceSteps S) (sink : SinkSteps T) (from to : S) (began now : T) (bearers : ℕ) (node : NodeView F) (d : DrawerView) (opened : F) (counts : List ℕ)
+    (known : IsNode role image chip node) (start : F) (is_start : node.start ≡ start) (h : IsUnderWay IsDue source sink from to began now bearers node d opened counts) where
   recovers : IsRecovered (chip start).now known.over
   recovers = subst (λ (s : F). IsRecovered (chip s).now known.over) is_start known.read
 
-  pub short_before : FellShort role source sink from to began now (chip start)
+  pub short_before : FellShort role IsDue source sink from to began now bearers (chip start)
   short_before = record {
     phases = h.phases;
     in_hand = [];
     one = omega arith;
     did = h.did;
-    gave = subst (λ ps. BySteps source.gives from ps to) (sym (append-nil h.phases)) h.gave;
+    dues = h.dues;
+    gave = subst (λ n. GivesEach source bearers n from h.dues (h.phases ++ []) to) known.life.elements (subst (λ ps. GivesEach source bearers node.machine.elements from h.dues ps to) (sym (append-nil h.phases)) h.gave);
+    due = h.due;
     took = h.took;
     placed = h.placed;
     each = each_whole false h.phases h.did h.count h.each;
@@ -289,13 +320,16 @@ module _ {F S T : Type 0} {role : Role} {image : List ℕ → Type 0} {chip : F 
     handled = known.life.handled;
   }
 
-  pub short_in : (events : List (List Event)) (after : S) → source.gives to events after → FellShort role source sink from after began now (chip start)
-  short_in events after gave = record {
+  pub short_in : (due : ℕ) → IsDue (entries_told h.did) due → (events : List (List Event)) (after : S) → source.gives bearers node.machine.elements due to events after → FellShort role IsDue source sink from after began now bearers (chip start)
+  short_in due is events after gave = record {
     phases = h.phases;
     in_hand = events ∷ [];
     one = omega arith;
     did = h.did;
-    gave = steps_more source.gives from h.phases to events after h.gave gave;
+    dues = h.dues ++ due ∷ [];
+    gave = subst (λ n. GivesEach source bearers n from (h.dues ++ due ∷ []) (h.phases ++ events ∷ []) after) known.life.elements
+        (gives_more source bearers node.machine.elements from h.dues h.phases to due events after h.gave gave);
+    due = due_more IsDue [] h.dues h.did due (given_many source bearers node.machine.elements from h.dues h.phases to h.gave ∙ sym h.count) h.due is;
     took = h.took;
     placed = h.placed;
     each = each_whole false h.phases h.did h.count h.each;
@@ -307,13 +341,15 @@ module _ {F S T : Type 0} {role : Role} {image : List ℕ → Type 0} {chip : F 
   }
 
 -- it had no phase yet
-pub short_first : {S T : Type 0} (role : Role) (source : SourceSteps S) (sink : SinkSteps T) (from : S) (began : T) (start : Chip) (over : List StoreRecord) → IsRecovered start.now over → FellShort role source sink from from began began start
-short_first role source sink from began start over read = record {
+pub short_first : {S T : Type 0} (role : Role) (IsDue : List Entry → ℕ → Type 0) (source : SourceSteps S) (sink : SinkSteps T) (from : S) (began : T) (bearers : ℕ) (start : Chip) (over : List StoreRecord) → IsRecovered start.now over → FellShort role IsDue source sink from from began began bearers start
+short_first role IsDue source sink from began bearers start over read = record {
   phases = [];
   in_hand = [];
   one = omega arith;
   did = [];
+  dues = [];
   gave = refl;
+  due = tt;
   took = refl;
   placed = tt;
   each = record { count = refl; parts = ends };

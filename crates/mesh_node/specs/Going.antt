@@ -20,7 +20,7 @@ use Rattle.life_laws.specs.Phases.{AreDone, AreOrdered, entries_by}
 pub record IsGoing {F : Type 0} (phases : List (List (List Event))) (node : NodeView F) (d : DrawerView)
     (sends : List (List Sent)) (counts : List ℕ) : Type 0 where
   pub done : AreDone phases node.machine.entries sends counts
-  pub pairs : PairsSo node.machine.entries sends d
+  pub pairs : PairsSo node.machine.entries node.machine.moves sends d
   pub handled : AreHandledAll phases node.machine.entries
   pub live : node.stops ≡ 0
   pub many : length sends ≡ length counts
@@ -32,7 +32,7 @@ pub record IsOver {F : Type 0} (phases : List (List (List Event))) (node : NodeV
   pub numbers : (k : ℕ)
       → map (λ e. e.number) (entries_by k node.machine.entries)
       ≡ range_with_len 1 (length (entries_by k node.machine.entries))
-  pub pairs : PairsSo node.machine.entries sends d
+  pub pairs : PairsSo node.machine.entries node.machine.moves sends d
   pub next : 0 < node.stops → (event : Event) → event_in node.machine.hand ≡ Some event → is_outside event ≡ true
       → IsNextIn phases node.machine.entries event
 

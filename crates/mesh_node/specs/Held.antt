@@ -18,9 +18,9 @@ use Rattle.mesh_node.specs.Told.{ArePlaced, AreToldEach, PhaseDid, SinkSteps, So
 -- The source of such a life is the list of the phases that its owner gave it: each comes behind those of before.
 abbrev pub given_phases : SourceSteps (List (List (List Event)))
 given_phases = record {
-  gives = λ old events new. new ≡ old ++ events ∷ [];
+  gives = λ bearers elements due old events new. new ≡ old ++ events ∷ [];
   ends = λ old new. new ≡ old;
-  fails = λ bearers elements old new. ⊥;
+  fails = λ bearers elements due old new. ⊥;
 }
 
 -- Its sink is the list of what its owner was told of each.
@@ -51,7 +51,8 @@ pub record HasLived {F : Type 0} (role : Role) (image : List ℕ → Type 0) (ch
   -- they are those that were told
   pub told : AreTold (entries_told did) life.node
   pub placed : ArePlaced 0 did
-  -- As many phases were told as came, and of each what was done in it: all, or in the last one, where the flash failed, perhaps not all.
+  -- As many phases were told as came, and of each what was done in it: all; in the last one, where the flash failed, as far as the bearer came
+  -- without the machine.
   pub each : AreToldEach life.node.machine.closed phases did
   pub many : length (sends_told 1 did) ≡ 1
   pub ordered : IsOver phases life.node life.drawer (sends_told 1 did)

@@ -1,7 +1,8 @@
 -- A life whose phases came from a source and were told to a sink, phase by phase.
-use Rattle.std.specs.Prelude.{◌≡◌, ℕ, ◌<◌, ◌≤◌, Bool, true, false, List, [], ◌++◌, length, map}
+use Rattle.std.specs.Prelude.{◌≡◌, ℕ, ◌<◌, ◌≤◌, Bool, true, false, List, [], ◌++◌, length, map, All}
 use Rattle.flash_model.specs.Chip.{Chip}
 use Rattle.mesh_types.specs.declared.events.Event.{Event}
+use Rattle.mesh_types.specs.declared.history.Entry.{Entry}
 use Rattle.mesh_types.specs.declared.report.End.{End}
 use Rattle.mesh_types.specs.declared.report.Opened.TheVariants as W
 use Rattle.machine_contract.specs.Moved.{HasMoved}
@@ -17,23 +18,28 @@ use Rattle.run_definitions.specs.RunOf.{LifeOf}
 use Rattle.seq_word.specs.Seen.{ClosedView, DrawerView}
 use Rattle.store_definitions.specs.Config.{config_of}
 use Rattle.store_definitions.specs.Recovered.{IsRecovered}
+use Rattle.life_laws.specs.Pairs.{IsFromMove}
 use Rattle.locked_node.specs.Node.{NodeView}
 use Rattle.locked_node.specs.Stands.{IsLater}
 use Rattle.machine_contract.specs.View.{MachineView}
 use Rattle.mesh_node.specs.Drawn.{TellsWords}
+use Rattle.mesh_node.specs.Due.{AreDue}
 use Rattle.mesh_node.specs.Going.{AreTold, IsGoing, IsOver}
 use Rattle.mesh_node.specs.Lives.{IsPrintable}
 use Rattle.mesh_node.specs.declared.told.LastStep.{LastStep}
 use Rattle.life_laws.specs.Phases.{PhasesDone}
-use Rattle.mesh_node.specs.Told.{ArePlaced, AreToldEach, BySteps, HasGiven, HasTaken, IsClosedAt, PhaseDid, SinkSteps, SourceSteps, entries_told, part_told, sends_told}
+use Rattle.mesh_node.specs.Told.{ArePlaced, AreToldEach, BySteps, GivesEach, HasGiven, HasTaken, IsClosedAt, PhaseDid, SinkSteps, SourceSteps, entries_told, part_told, sends_told}
 
-module _ {F S T : Type 0} (source : SourceSteps S) (sink : SinkSteps T) (from to : S) (began now : T) (bearers : ℕ) (node : NodeView F) (d : DrawerView) where
+module _ {F S T : Type 0} (IsDue : List Entry → ℕ → Type 0) (source : SourceSteps S) (sink : SinkSteps T) (from to : S) (began now : T) (bearers : ℕ) (node : NodeView F) (d : DrawerView) where
   -- A life as far as it is: its phases came from the source, and the sink took what each did. Before its first phase nothing is asked of the
   -- flash that it was opened with.
   pub record IsUnderWay (opened : F) (counts : List ℕ) : Type 0 where
     pub phases : List (List (List Event))
     pub did : List PhaseDid
-    pub gave : BySteps source.gives from phases to
+    pub dues : List ℕ
+    pub gave : GivesEach source bearers node.machine.elements from dues phases to
+    -- what the source was told for each phase was due behind the phases before it
+    pub due : AreDue IsDue [] dues did
     pub took : BySteps sink.takes began did now
     pub going : IsGoing phases node d (sends_told bearers did) counts
     pub told : AreTold (entries_told did) node
@@ -46,7 +52,9 @@ module _ {F S T : Type 0} (source : SourceSteps S) (sink : SinkSteps T) (from to
   pub record WentOn (opened : F) (last : LastStep) (closed : Bool) : Type 0 where
     pub phases : List (List (List Event))
     pub did : List PhaseDid
-    pub gave : HasGiven source bearers node.machine.elements last from phases to
+    pub dues : List ℕ
+    pub gave : HasGiven source bearers node.machine.elements last from dues phases to
+    pub due : AreDue IsDue [] dues did
     pub took : HasTaken sink last began did now
     pub over : IsOver phases node d (sends_told bearers did)
     pub told : AreTold (entries_told did) node
@@ -81,7 +89,7 @@ pub record IsAllTold (Stood : List StoreRecord → MachineView → Type 0) (over
   pub fills : machine.fills ≡ refills
   pub is_closed : machine.closed ≡ closed
 
-module _ {S T : Type 0} (Stood : List StoreRecord → MachineView → Type 0) (role : Role) (image : List ℕ → Type 0) (source : SourceSteps S) (sink : SinkSteps T) (from to : S) (began now : T) (bearers : ℕ) where
+module _ {S T : Type 0} (Stood : List StoreRecord → MachineView → Type 0) (role : Role) (image : List ℕ → Type 0) (IsDue : List Entry → ℕ → Type 0) (source : SourceSteps S) (sink : SinkSteps T) (since to : S) (began now : T) (bearers : ℕ) where
   -- The life that opened over what the flash recovered at its beginning. It is cut where the flash failed in it, and only
   -- where it failed since its power was cycled.
   pub record LivedOn {F : Type 0} (start new : Chip) (opened left : F) (refills : ℕ) (drawn : ClosedView) (closed : Bool) (last : LastStep) : Type 0 where
@@ -89,8 +97,11 @@ module _ {S T : Type 0} (Stood : List StoreRecord → MachineView → Type 0) (r
     pub did : List PhaseDid
     pub over : List StoreRecord
     pub recovered : IsRecovered start.now over
+    pub dues : List ℕ
     -- what it asked the source for were phases of its bearers, of a node with its elements
-    pub gave : HasGiven source bearers (config_of over).elements last from phases to
+    pub gave : HasGiven source bearers (config_of over).elements last since dues phases to
+    -- what it told the source each time was due behind the entries of the phases before
+    pub due : AreDue IsDue [] dues did
     pub took : HasTaken sink last began did now
     pub placed : ArePlaced 0 did
     pub each : AreToldEach closed phases did
@@ -108,8 +119,10 @@ module _ {S T : Type 0} (Stood : List StoreRecord → MachineView → Type 0) (r
     pub paid : IsLifeSoFar role image (found_of start) new over all.machine
     -- where it wasn't cut, the counter was moved with each record that raised the transmit IV Index, and at no other time
     pub moved : closed ≡ false → HasMoved role over (entries_told did) refills drawn.advances
+    -- no line draws a word, or tells the end of an IV Index, below where the counter had been moved to behind its entry (`moves` of `paid`)
+    pub from : All (All (IsFromMove (entries_told did) all.machine.moves)) (sends_told bearers did)
 
-module _ {S T : Type 0} (role : Role) (source : SourceSteps S) (sink : SinkSteps T) (from to : S) (began now : T) where
+module _ {S T : Type 0} (role : Role) (IsDue : List Entry → ℕ → Type 0) (source : SourceSteps S) (sink : SinkSteps T) (from to : S) (began now : T) (bearers : ℕ) where
   -- A life that memory ran out in. The phases that were through were told, each once it was, and they are those of a life that opened over
   -- what the flash recovered at its beginning. One phase more may have come, of which nothing was told.
   pub record FellShort (start : Chip) : Type 0 where
@@ -117,12 +130,14 @@ module _ {S T : Type 0} (role : Role) (source : SourceSteps S) (sink : SinkSteps
     pub in_hand : List (List (List Event))
     pub one : length in_hand ≤ 1
     pub did : List PhaseDid
-    pub gave : BySteps source.gives from (phases ++ in_hand) to
+    pub over : List StoreRecord
+    pub recovered : IsRecovered start.now over
+    pub dues : List ℕ
+    pub gave : GivesEach source bearers (config_of over).elements from dues (phases ++ in_hand) to
+    pub due : AreDue IsDue [] dues did
     pub took : BySteps sink.takes began did now
     pub placed : ArePlaced 0 did
     pub each : AreToldEach false phases did
-    pub over : List StoreRecord
-    pub recovered : IsRecovered start.now over
     pub told : List Told
     pub entries : map (λ t. t.entry) told ≡ entries_told did
     pub handled : AreHandled role over [] told

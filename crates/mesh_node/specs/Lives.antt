@@ -1,6 +1,7 @@
 -- A life between a flash and the flash.
 use Rattle.std.specs.Prelude.{◌≡◌, ℕ, ◌+◌, ◌^◌, ◌<◌, ◌≤◌, ◌≢◌, length, true, false, IsTrue, List, Option, None, IfSome}
-use Rattle.flash_model.specs.Chip.{Chip, Remembers}
+use Rattle.flash_model.specs.Arming.{IsWithin}
+use Rattle.flash_model.specs.Chip.{Chip, Remembers, count_of}
 use Rattle.machine_contract.specs.Moved.{HasMoved}
 use Rattle.machine_contract.specs.Opening.{EachRecovered, FlashFound, IsNodeFlash}
 use Rattle.machine_contract.specs.Standing.{IsLifeSoFar}
@@ -16,15 +17,17 @@ use Rattle.run_definitions.specs.RunOf.{LifeOf, is_on}
 use Rattle.slot_definitions.specs.Slots.{HasFormat}
 use Rattle.store_definitions.specs.Config.{config_of}
 use Rattle.store_definitions.specs.Recovered.{IsRecovered}
+use Rattle.store_definitions.specs.Wear.{COMPACTION_OCTETS, MOUNT_READS}
 use Rattle.std.specs.Prelude.{All, Some}
 use Rattle.life_laws.specs.declared.plan.LifeLog.{LifeLog}
 use Rattle.life_laws.specs.declared.plan.LifePlan.{LifePlan}
 use Rattle.machine_contract.specs.View.{MachineView}
 use Rattle.mesh_node.specs.Drawn.{TellsDrawn}
 use Rattle.mesh_node.specs.Given.{IsTold, WasGiven}
+use Rattle.life_laws.specs.Pairs.{IsFromMove}
 use Rattle.life_laws.specs.Plan.{HasOneArm, IsStep, life_of}
 use Rattle.mesh_node.specs.Steps.{IsGiven, IsOfPlan}
-use Rattle.node_limits.specs.declared.TheConstants.{BEARERS, COMPACTION_CALLS}
+use Rattle.node_limits.specs.declared.TheConstants.{BANK_SECTORS, BEARERS, COMPACTION_CALLS}
 
 -- A plan for a node that any image of the flash recovers: at most `BEARERS` bearers, at most one order to tear a call, and events that the node may have.
 pub record IsPlanned (chip : Chip) (plan : LifePlan) : Type 0 where
@@ -45,9 +48,9 @@ pub record IsPrintable (life : Life) : Type 0 where
   pub bearers : length life.sends ≤ BEARERS
   pub lines : All (All IsShort) life.sends
 
--- what a life finds of a flash that reads this, once power was given: no program or erase call was begun since
+-- what a life finds of a flash that reads this, once power was given: no call was begun since
 abbrev pub found_at : List ℕ → FlashFound
-found_at image = record { now = image; changes = 0 }
+found_at image = record { now = image; count = record { calls = 0; erases = 0; octets = 0 }; reads = 0 }
 
 -- The life opened over what one image of the flash recovers. Whatever an image recovers now, it is a life of its plan that leaves this.
 pub record Lives {M F : Type 0} (view : M → MachineView) (stands : FlashFound → Chip → List StoreRecord → M → Type 0) (chip : F → Chip)
@@ -55,6 +58,8 @@ pub record Lives {M F : Type 0} (view : M → MachineView) (stands : FlashFound 
   pub over : List StoreRecord
   pub image : List ℕ
   pub is_image : old.images image
+  -- the one that was read as power was given
+  pub read : (chip new).setting.saved ≡ image
   pub recovered : IsRecovered image over
   -- it is the flash that was given: what a cut might have left of it earlier, it might still have left
   pub past : Remembers old (chip new)
@@ -76,10 +81,11 @@ pub record Lives {M F : Type 0} (view : M → MachineView) (stands : FlashFound 
   pub opening : IsTrue old.steady → log.opened ≡ W.CutAtStart → HasFormat 1 image
   -- cut so, it made at most the program and erase calls of that, and none where the format is another
   pub opening_calls : log.opened ≡ W.CutAtStart
-      → ((chip new).changes ≤ COMPACTION_CALLS) × (¬ HasFormat 1 image → (chip new).changes ≡ 0)
+      → ((chip new).changes ≤ COMPACTION_CALLS) × ((chip new).erases ≤ BANK_SECTORS) × ((chip new).octets ≤ COMPACTION_OCTETS)
+      × (¬ HasFormat 1 image → count_of (chip new) ≡ (found_at image).count)
   -- and where there was a Node Reset it made none, told or not
-  pub reset : log.opened ≡ W.WasReset → (chip new).changes ≡ 0
-  pub reset_calls : (config_of over).reset ≡ true → log.opened ≡ W.CutAtStart → (chip new).changes ≡ 0
+  pub reset : log.opened ≡ W.WasReset → count_of (chip new) ≡ (found_at image).count
+  pub reset_calls : (config_of over).reset ≡ true → log.opened ≡ W.CutAtStart → count_of (chip new) ≡ (found_at image).count
   -- where it wasn't cut, the counter was moved with each record that raised the transmit IV Index, and at no other time
   pub moved : is_cut log.end ≡ false
       → IfSome log.drawn (λ words. HasMoved role over log.history.entries.items log.history.refills words.advances)
@@ -87,10 +93,17 @@ pub record Lives {M F : Type 0} (view : M → MachineView) (stands : FlashFound 
   pub armed : IsTrue old.steady → log.opened ≢ W.WasReset → IsGiven plan (chip new).setting.arm
   -- and it was given at its place in the plan
   pub given : IfSome (chip new).setting.arm (WasGiven view (stands (found_at image)) chip over plan)
+  -- and carried out: of a life that wasn't cut at most the calls that come before the torn one were begun since
+  pub carried : IsTrue old.steady → is_cut log.end ≡ false → IsWithin (chip new).setting.arm (chip new).changes
+  -- what it opens with takes at most the read calls of a mount, and nothing is read behind it
+  pub reads : (chip new).reads ≤ MOUNT_READS
   -- what is told of the life is all that its machine handled
   pub told : is_on log.opened ≡ true → IsTold view (stands (found_at image)) chip over (life_of log) new
   -- and the flash had at most the program and erase calls that the records cost which were stored or in hand, and a migration
   pub paid : (on : is_on log.opened ≡ true)
       → IsLifeSoFar role IsNodeImage (found_at image) (chip new) over (view (told on).machine)
+  -- no line draws a word, or tells the end of an IV Index, below where the counter had been moved to behind its entry
+  pub from : (on : is_on log.opened ≡ true)
+      → All (All (IsFromMove (life_of log).entries (view (told on).machine).moves)) (life_of log).sends
   -- a life that wasn't run read nothing
   pub early : is_on log.opened ≡ false → log.early ≡ record { again = 0; before = 0 }

@@ -1,5 +1,5 @@
 -- A life that was run, against the flash as it was once power was given.
-use Rattle.std.specs.Prelude.{◌≡◌, ℕ, ◌<◌, true, false, IsTrue, List, IfSome}
+use Rattle.std.specs.Prelude.{◌≡◌, ℕ, ◌<◌, true, false, IsTrue, List, All, IfSome}
 use Rattle.flash_model.specs.Chip.{Chip}
 use Rattle.machine_contract.specs.Moved.{HasMoved}
 use Rattle.machine_contract.specs.Opening.{EachRecovered, FlashFound, IsNodeFlash, found_of}
@@ -15,6 +15,7 @@ use Rattle.mesh_node.specs.Lives.{IsPrintable, cut_calls}
 use Rattle.machine_contract.specs.View.{MachineView}
 use Rattle.mesh_node.specs.Drawn.{TellsDrawn}
 use Rattle.mesh_node.specs.Given.{IsTold, WasGiven}
+use Rattle.life_laws.specs.Pairs.{IsFromMove}
 use Rattle.life_laws.specs.Plan.{life_of}
 use Rattle.mesh_node.specs.Steps.{HasGiven, IsOfPlan}
 
@@ -29,6 +30,7 @@ pub record Ran {M F : Type 0} (view : M → MachineView) (stands : FlashFound �
   pub cause : is_cut log.end ≡ true → (chip new).setting.faults < (chip new).faults
   pub no_fault : is_cut log.end ≡ false → (chip new).faults ≡ start.faults
   pub arm : IsOfPlan plan (chip new).setting.arm
+  pub saved : (chip new).setting.saved ≡ start.setting.saved
   pub calls : IfSome (cut_calls log.end) (λ calls. calls ≡ (chip new).changes)
   pub drawn : TellsDrawn (life_of log) log.drawn
   pub moved : is_cut log.end ≡ false
@@ -37,4 +39,5 @@ pub record Ran {M F : Type 0} (view : M → MachineView) (stands : FlashFound �
   pub given : IfSome (chip new).setting.arm (WasGiven view (stands (found_of start)) chip over plan)
   pub told : IsTold view (stands (found_of start)) chip over (life_of log) new
   pub paid : IsLifeSoFar role IsNodeImage (found_of start) (chip new) over (view told.machine)
+  pub from : All (All (IsFromMove (life_of log).entries (view told.machine).moves)) (life_of log).sends
   pub on : is_on log.opened ≡ true

@@ -1,7 +1,7 @@
 -- What a step leaves of a node besides what its bearers did.
 use Rattle.std.specs.Prelude.{◌≡◌, ◌≢◌, ◌⊎◌, ℕ, List, [], ◌∷◌, Option, Some, None, IsSomeAnd, IsTrue, ⊤}
 use Rattle.std.specs.List.{Contains}
-use Rattle.flash_model.specs.Chip.{Arm, Chip, Remembers}
+use Rattle.flash_model.specs.Chip.{Arm, Chip, Remembers, count_of}
 use Rattle.machine_contract.specs.Standing.{IsSameFlash}
 use Rattle.run_definitions.specs.Order.{Step, arm}
 use Rattle.life_laws.specs.Plan.{AreUnarmed, HasOneArm}
@@ -64,6 +64,8 @@ pub record IsArmedFirst (steps : List PlanStep) (old new : Chip) : Type 0 where
   pub order : new.setting.arm ≡ first_order steps old.changes
   pub steady : new.steady ≡ old.steady
   pub cycles : new.setting.cycles ≡ old.setting.cycles
-  pub changes : new.changes ≡ old.changes
+  pub saved : new.setting.saved ≡ old.setting.saved
+  pub count : count_of new ≡ count_of old
+  pub reads : new.reads ≡ old.reads
   pub past : Remembers old new
   pub same : IsTrue old.honest → IsSameFlash old new

@@ -11,6 +11,7 @@ ghost use Rattle.machine_contract.specs.Started.{IsStarted};
 ghost use Rattle.locked_node.specs.Stands.{IsNode};
 ghost use Rattle.node_bearer.specs.Did.{AreEvents};
 ghost use Rattle.life_laws.specs.Phases.{both_of};
+ghost use Rattle.mesh_node.specs.Due.{IsDueSince};
 ghost use Rattle.mesh_node.specs.Given.{Stood};
 ghost use Rattle.mesh_node.specs.Going.{AreTold, IsBetween, IsGoing, IsOver};
 ghost use Rattle.mesh_node.specs.Lived.{FellShort, LivedOn, WentOn};
@@ -27,6 +28,7 @@ use machine_contract::Machine;
 use mesh_types::events::Event;
 use node_phase::{Alone, FreeGate, PhaseHost, run_alone};
 use std::alloc::{AllocError, Global};
+use store_definitions::recovery::one_list_is_recovered;
 
 /// One phase of a life of one bearer, in the thread that calls: it has these events. It is what `one_phase` does for one list of events.
 /// For want of memory the node is dropped with its flash.
@@ -50,6 +52,8 @@ pub fn one_phase_alone<M: Machine, F: Flash + Send + Drop>(
     ensures frame { IfOk result (λ r. IsSameNode node r.node) }
     ensures arm { IfOk result (λ r. (F.chip r.node.flash).setting.arm ≡ (F.chip node.flash).setting.arm) }
     ensures saved { IfOk result (λ r. (F.chip r.node.flash).setting.saved ≡ (F.chip node.flash).setting.saved) }
+    ensures called { IfOk result (λ r. (F.chip r.node.flash).setting.called ≡ (F.chip node.flash).setting.called) }
+    ensures moment { IfOk result (λ r. (F.chip r.node.flash).setting.moment ≡ (F.chip node.flash).setting.moment) }
     ensures closed { IfOk result (λ r. r.closed ≡ r.node.machine.closed) }
     ensures stopped { IfOk result (λ r. r.closed ≡ true → 0 < r.node.stops) }
     ensures known { IfOk result (λ r. IsNode M.role M.image F.chip r.node) }
@@ -109,9 +113,10 @@ fn go_on_alone<M: Machine, F: Flash + Send + Drop, S: PhaseSource, T: PhaseSink>
     ensures parts { IfOk result (λ r. r.seats.drawer.parts ≡ 1024) }
     ensures frame { IfOk result (λ r. IsSameNode life.node r.node) }
     ensures short { OnErr result
-        (FellShort M.role S.steps T.steps source.old source.new sink.old sink.new (F.chip life.node.start)) }
+        (FellShort M.role (IsDueSince M.role M.quiet (F.chip life.node.start)) S.steps T.steps source.old source.new sink.old sink.new life.bearers
+        (F.chip life.node.start)) }
     ensures went { IfOk result
-        (λ r. WentOn S.steps T.steps source.old source.new sink.old sink.new life.bearers r.node r.seats.drawer life.node.flash
+        (λ r. WentOn (IsDueSince M.role M.quiet (F.chip life.node.start)) S.steps T.steps source.old source.new sink.old sink.new life.bearers r.node r.seats.drawer life.node.flash
         r.last r.node.machine.closed) }
 {
     let Going {
@@ -120,8 +125,9 @@ fn go_on_alone<M: Machine, F: Flash + Send + Drop, S: PhaseSource, T: PhaseSink>
         bearers,
         elements,
     } = life;
-    // It does nothing when it runs: the proof uses what it says.
+    // They do nothing when they run: the proof uses what they say.
     node.known();
+    one_list_is_recovered();
     for _phase in 0..u64::MAX {
         let lists = match ask(source, bearers, elements, node.due()) {
             Ok(lists) => lists,
@@ -150,10 +156,11 @@ pub fn live_alone<M: Machine, F: Flash + Send + Drop, S: PhaseSource, T: PhaseSi
     requires kept { Keeps (F.chip beginning.start) (F.chip beginning.flash) }
     requires alone { beginning.bearers ≡ 1 }
     ensures lived { IfOk result
-        (λ r. LivedOn (Stood M.view (M.stands (found_of (F.chip beginning.start))) F.chip r.flash) M.role M.image S.steps T.steps source.old source.new sink.old sink.new beginning.bearers
+        (λ r. LivedOn (Stood M.view (M.stands (found_of (F.chip beginning.start))) F.chip r.flash) M.role M.image (IsDueSince M.role M.quiet (F.chip beginning.start)) S.steps T.steps source.old source.new sink.old sink.new beginning.bearers
         (F.chip beginning.start) (F.chip r.flash) beginning.flash r.flash r.refills r.drawn r.closed r.last) }
     ensures short { OnErr result
-        (FellShort M.role S.steps T.steps source.old source.new sink.old sink.new (F.chip beginning.start)) }
+        (FellShort M.role (IsDueSince M.role M.quiet (F.chip beginning.start)) S.steps T.steps source.old source.new sink.old sink.new beginning.bearers
+        (F.chip beginning.start)) }
 {
     let life = begin(alloc, beginning)?;
     let gone = go_on_alone(alloc, life, source, sink)?;

@@ -1,9 +1,9 @@
 //! A life of one bearer that its owner holds between its phases: who links a node has no source and no sink, but calls.
 #![tactic(auto)]
 
-ghost use Rattle.std.specs.Prelude.{◌≡◌, ◌≤◌, ◌-◌, ◌^◌, List, [], ◌∷◌, ◌++◌, length, map, All, true, false, None, Some, IfErr, IfOk, IfSome, OnErr};
+ghost use Rattle.std.specs.Prelude.{◌≡◌, ◌+◌, ◌<◌, ◌≤◌, ◌-◌, ◌^◌, List, [], ◌∷◌, ◌++◌, length, map, All, true, false, None, Some, IfErr, IfOk, IfSome, OnErr};
 ghost use Rattle.file_flash.specs.Handed.{IsHandedOut};
-ghost use Rattle.file_flash.specs.Noted.{IsInside, put_of, written};
+ghost use Rattle.file_flash.specs.Noted.{AreFronts, AreOnChip, IsInside, put_of, written};
 ghost use Rattle.flash_model.specs.Chip.{IsFresh, Keeps};
 ghost use Rattle.mesh_types.specs.declared.events.Event.{Event};
 ghost use Rattle.machine_contract.specs.declared.opening.StartFault.TheVariants as faults;
@@ -12,6 +12,7 @@ ghost use Rattle.machine_contract.specs.Refused.{IsStartCause, WasReset};
 ghost use Rattle.machine_contract.specs.Started.{IsStarted};
 ghost use Rattle.locked_node.specs.Stands.{IsDueNode, IsIdleNode};
 ghost use Rattle.node_bearer.specs.Did.{AreEvents};
+ghost use Rattle.mesh_node.specs.Due.{is_any};
 ghost use Rattle.mesh_node.specs.Given.{Stood};
 ghost use Rattle.mesh_node.specs.Held.{HasLived, given_phases, last_held, told_phases};
 ghost use Rattle.mesh_node.specs.Lived.{FellShort, LivedOn};
@@ -131,6 +132,7 @@ impl<M: Machine, F: Flash + Send + Drop> HeldLife<M, F> {
         requires began { (F.chip flash).setting.faults ≤ (F.chip flash).faults }
         ensures start { IfOk result (λ r. r.node.start ≡ flash) }
         ensures saved { IfOk result (λ r. (F.chip r.node.flash).setting.saved ≡ (F.chip flash).setting.saved) }
+        ensures called { IfOk result (λ r. (F.chip r.node.flash).setting.called ≡ (F.chip flash).setting.called) }
         ensures usable { IfOk result (λ r. r.node.machine.closed ≡ false) }
         ensures begins { IfOk result (λ r. r.node.machine.entries ≡ []) }
         ensures held { IfOk result (λ r. HasLived M.role M.image F.chip r [] []) }
@@ -181,6 +183,10 @@ impl<M: Machine, F: Flash + Send + Drop> HeldLife<M, F> {
         ensures numbers { IfOk result (λ r. r.life.numbers ≡ self.numbers) }
         ensures saved { IfOk result
             (λ r. (F.chip r.life.node.flash).setting.saved ≡ (F.chip self.node.flash).setting.saved) }
+        ensures called { IfOk result
+            (λ r. (F.chip r.life.node.flash).setting.called ≡ (F.chip self.node.flash).setting.called) }
+        ensures moment { IfOk result
+            (λ r. (F.chip r.life.node.flash).setting.moment ≡ (F.chip self.node.flash).setting.moment) }
         ensures place { IfOk result (λ r. r.log.first ≡ length self.node.machine.entries) }
         ensures bearers { IfOk result (λ r. length r.log.sends.items ≡ 1) }
         ensures part { IfOk result (λ r. IsPartDone r.life.node.machine.closed (events.now ∷ []) (did_of r.log)) }
@@ -195,7 +201,7 @@ impl<M: Machine, F: Flash + Send + Drop> HeldLife<M, F> {
         ensures short { (phases : List (List (List Event))) (did : List PhaseDid)
             → HasLived M.role M.image F.chip self phases did
             → OnErr result
-            (FellShort M.role given_phases told_phases [] (phases ++ (events.now ∷ []) ∷ []) [] did
+            (FellShort M.role is_any given_phases told_phases [] (phases ++ (events.now ∷ []) ∷ []) [] did 1
             (F.chip self.node.start)) }
     {
         let HeldLife { going } = self;
@@ -249,7 +255,7 @@ impl<M: Machine, F: Flash + Send + Drop> HeldLife<M, F> {
         ensures closed { result.closed ≡ self.node.machine.closed }
         ensures lived { (phases : List (List (List Event))) (did : List PhaseDid)
             → HasLived M.role M.image F.chip self phases did
-            → LivedOn (Stood M.view (M.stands (found_of (F.chip self.node.start))) F.chip result.flash) M.role M.image given_phases told_phases [] phases [] did 1
+            → LivedOn (Stood M.view (M.stands (found_of (F.chip self.node.start))) F.chip result.flash) M.role M.image is_any given_phases told_phases [] phases [] did 1
             (F.chip self.node.start) (F.chip result.flash) self.node.flash result.flash result.refills result.drawn
             result.closed result.last }
     {
@@ -267,13 +273,21 @@ impl<M: Machine, F: Flash + Send + Drop> HeldLife<M, F> {
 
 impl<M: Machine> HeldLife<M, NotedFlash> {
     /// The writes of the flash since this was called last, or since it was made, as `Node::take_writes` says it: those that the flash noted, in
-    /// that order (`noted`). None waits any more then (`none`), and the life goes on as it was (`held`).
+    /// that order (`noted`), at most so many as program and erase calls were counted since then, as long as that count isn't ffffffff (`few`). Each
+    /// gives its octets on a chip too (`on_chip`), and each front of them, with its last write torn or whole, is content that a power cut might
+    /// have left since then (`fronts`). None waits any more then (`none`), and the life goes on as it was (`held`).
     ///
     /// Whoever takes them makes them durable, in their order, before anything leaves that a call of this life handed out.
     pub fn take_writes(&mut self) -> Vec<Write>
         ensures writes { written (map put_of result.items) (⟦<NotedFlash as Flash>⟧.chip self.old.node.flash).setting.saved
             ≡ (⟦<NotedFlash as Flash>⟧.chip self.old.node.flash).now }
         ensures inside { All IsInside result.items }
+        ensures on_chip { AreOnChip (map put_of result.items) (⟦<NotedFlash as Flash>⟧.chip self.old.node.flash).setting.saved }
+        ensures fronts { AreFronts (map put_of result.items) (⟦<NotedFlash as Flash>⟧.chip self.old.node.flash).setting.saved
+            ((⟦<NotedFlash as Flash>⟧.chip self.old.node.flash).since (⟦<NotedFlash as Flash>⟧.chip self.old.node.flash).setting.moment) }
+        ensures few { (⟦<NotedFlash as Flash>⟧.chip self.old.node.flash).changes < 4294967295
+            → (⟦<NotedFlash as Flash>⟧.chip self.old.node.flash).setting.called + length result.items
+            ≤ (⟦<NotedFlash as Flash>⟧.chip self.old.node.flash).changes }
         ensures noted { Some (map put_of result.items) ≡ ⟦<NotedPlace as Backing>⟧.waiting self.old.node.flash.backing }
         ensures none { ⟦<NotedPlace as Backing>⟧.waiting self.new.node.flash.backing ≡ Some [] }
         ensures flash { IsHandedOut (⟦<NotedFlash as Flash>⟧.chip self.old.node.flash)

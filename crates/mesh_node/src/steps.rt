@@ -60,6 +60,7 @@ fn do_phase<M: Machine, F: Bench, G: Gate, R: Threads + Wait + Sync>(
     ensures parts { OnOk result (seats.new.drawer.parts ≡ 1024) }
     ensures frame { IfOk result (λ r. IsSameNode node r.0) }
     ensures arm { IfOk result (λ r. (F.chip r.0.flash).setting.arm ≡ (F.chip node.flash).setting.arm) }
+    ensures saved { IfOk result (λ r. (F.chip r.0.flash).setting.saved ≡ (F.chip node.flash).setting.saved) }
     ensures many { OnOk result
         ((length seats.new.counts.items ≡ length seats.old.counts.items)
         × (length log.new.sends.items ≡ length log.old.sends.items)) }
@@ -102,6 +103,7 @@ pub fn do_step<M: Machine, F: Bench, G: Gate, R: Threads + Wait + Sync>(
     ensures parts { OnOk result (seats.new.drawer.parts ≡ 1024) }
     ensures frame { IfOk result (λ r. IsSameNode node r.0) }
     ensures arm { IfOk result (λ r. IsArmedBy step.now (F.chip node.flash) (F.chip r.0.flash)) }
+    ensures saved { IfOk result (λ r. (F.chip r.0.flash).setting.saved ≡ (F.chip node.flash).setting.saved) }
     ensures many { OnOk result
         ((length seats.new.counts.items ≡ length seats.old.counts.items)
         × (length log.new.sends.items ≡ length log.old.sends.items)) }
@@ -152,6 +154,7 @@ pub fn do_steps<M: Machine, F: Bench, G: Gate, R: Threads + Wait + Sync>(
     ensures frame { IfOk result (λ r. IsSameNode node r.0) }
     ensures arm { IfOk result
         (λ r. IsSameOrOf (steps_of steps.now) (F.chip node.flash).setting.arm (F.chip r.0.flash).setting.arm) }
+    ensures saved { IfOk result (λ r. (F.chip r.0.flash).setting.saved ≡ (F.chip node.flash).setting.saved) }
     ensures held { IfOk result (λ r. (F.chip node.flash).setting.arm ≢ None → (F.chip r.0.flash).setting.arm ≢ None) }
     ensures given { IfOk result (λ r. r.0.stops ≡ 0 → HasGiven (steps_of steps.now) (F.chip r.0.flash).setting.arm) }
     ensures placed { (over : List StoreRecord) → IsRecovered (F.chip node.start).now over

@@ -93,12 +93,12 @@ pub trait PhaseSource {
         due: u32,
     ) -> Result<Option<Vec<Vec<Event>>>, SourceFailed>
         ensures gives { IfOk result
-            (λ r. IfSome r (λ lists. steps.gives self.old (map (λ v. v.items) lists.items) self.new)) }
+            (λ r. IfSome r (λ lists. steps.gives bearers elements due self.old (map (λ v. v.items) lists.items) self.new)) }
         ensures long { IfOk result (λ r. IfSome r (λ lists. length lists.items ≡ bearers)) }
         ensures events { IfOk result
             (λ r. IfSome r (λ lists. All (λ v. AreEvents elements v.items) lists.items)) }
         ensures ends { IfOk result (λ r. r ≡ None → steps.ends self.old self.new) }
-        ensures fails { OnErr result (steps.fails bearers elements self.old self.new) };
+        ensures fails { OnErr result (steps.fails bearers elements due self.old self.new) };
 }
 
 /// Who is told of each phase of a life: at once when it is over, and so only once all of it is stored.
@@ -120,10 +120,11 @@ pub fn ask<S: PhaseSource>(
     elements: u8,
     due: u32,
 ) -> Result<Vec<Vec<Event>>, LastStep>
-    ensures gives { IfOk result (λ lists. S.steps.gives source.old (map (λ v. v.items) lists.items) source.new) }
+    ensures gives { IfOk result
+        (λ lists. S.steps.gives bearers elements due source.old (map (λ v. v.items) lists.items) source.new) }
     ensures long { IfOk result (λ lists. length lists.items ≡ bearers) }
     ensures events { IfOk result (λ lists. All (λ v. AreEvents elements v.items) lists.items) }
-    ensures none { IfErr result (λ last. GivesNone S.steps bearers elements last source.old source.new) }
+    ensures none { IfErr result (λ last. GivesNone S.steps bearers elements due last source.old source.new) }
 {
     match source.next(bearers, elements, due) {
         Ok(Some(lists)) => Ok(lists),

@@ -3,8 +3,8 @@ use Rattle.std.proofs.Common.{◌≡◌, ◌⊎◌, ◌<◌, ◌≤◌, ◌+◌,
 use Rattle.std.specs.Prelude.{IfSome, IsSomeAnd}
 use Rattle.std.specs.Io.KnownBytes.{Consumes, IsAtEnd}
 use Rattle.flash_model.proofs.Runs.{past_more}
-use Rattle.flash_model.specs.Arming.{Begins, BeginsAtMost}
-use Rattle.flash_model.specs.Chip.{Chip, IsFresh, Keeps, KeepsCount, LeavesOnly, Setting, Stays}
+use Rattle.flash_model.specs.Arming.{Begins, BeginsAtMost, Erases, ErasesAtMost, Programs, ProgramsAtMost}
+use Rattle.flash_model.specs.Chip.{CallCount, Chip, IsFresh, Keeps, KeepsCount, LeavesOnly, Setting, Stays, count_of}
 use Rattle.slot_journal.specs.Format.{IsErased, IsFirstWritten}
 use Rattle.node_store.specs.Provisioning.{provisioning}
 use Rattle.node_store.specs.Tie.{IsMade}
@@ -14,6 +14,7 @@ use Rattle.record_types.specs.declared.records.StoreRecord.{StoreRecord}
 use Rattle.report_definitions.specs.Record.{Life, LifeOver}
 use Rattle.report_writer.specs.Writing.{SinkView}
 use Rattle.run_definitions.specs.RunOf.{Script}
+use Rattle.node_store.specs.Calls.{only_slots}
 use Rattle.mesh_run.specs.Kind.{MachineKind}
 use Rattle.mesh_run.specs.Ran.{FromProvisioned, Ran, RanFirst, RanFront}
 use Rattle.script_definitions.specs.Reading.{Reading, reading}
@@ -68,20 +69,20 @@ pub through : (old mid new : Chip) → IsSameFlash old mid → Keeps mid new →
 through old mid new h k = record { honest = subst IsTrue (sym k.honest) h.honest; steady = k.steady ∙ h.steady; later = omega (arith, h.later, k.later); past = past_more old mid new h.past k.past }
 
 -- what was set when power was cycled is set still
-set_after : (old mid new : Chip) → new.setting ≡ mid.setting → mid.setting ≡ record { faults = old.faults; arm = None; saved = mid.now; moment = mid.moment; cycles = old.setting.cycles + 1 }
-    → new.setting ≡ record { faults = old.faults; arm = None; saved = mid.now; moment = new.setting.moment; cycles = old.setting.cycles + 1 }
-set_after old mid new kept is = subst (λ (s : Setting). s ≡ record { faults = old.faults; arm = None; saved = mid.now; moment = s.moment; cycles = old.setting.cycles + 1 }) (sym (kept ∙ is)) refl
+set_after : (old mid new : Chip) → new.setting ≡ mid.setting → mid.setting ≡ record { faults = old.faults; arm = None; saved = mid.now; moment = mid.moment; called = 0; cycles = old.setting.cycles + 1 }
+    → new.setting ≡ record { faults = old.faults; arm = None; saved = mid.now; moment = new.setting.moment; called = 0; cycles = old.setting.cycles + 1 }
+set_after old mid new kept is = subst (λ (s : Setting). s ≡ record { faults = old.faults; arm = None; saved = mid.now; moment = s.moment; called = 0; cycles = old.setting.cycles + 1 }) (sym (kept ∙ is)) refl
 
 -- an octet isn't erased, and the content stays
 pub written_at : (old mid new : Chip) (at : ℕ) → KeepsCount old mid → old.images mid.now → IsFresh mid
-    → mid.setting ≡ record { faults = old.faults; arm = None; saved = mid.now; moment = mid.moment; cycles = old.setting.cycles + 1 } → Keeps mid new → new.faults ≡ mid.faults
-    → IsFirstWritten mid.now at → ((IsErased mid.now → ⊥) → Stays mid new) → mid.changes ≡ 0 → ((IsErased mid.now → ⊥) → new.changes ≡ mid.changes) → IsWrittenAt at old new
+    → mid.setting ≡ record { faults = old.faults; arm = None; saved = mid.now; moment = mid.moment; called = 0; cycles = old.setting.cycles + 1 } → Keeps mid new → new.faults ≡ mid.faults
+    → IsFirstWritten mid.now at → ((IsErased mid.now → ⊥) → Stays mid new) → count_of mid ≡ only_slots 0 → ((IsErased mid.now → ⊥) → count_of new ≡ count_of mid) → IsWrittenAt at old new
 written_at old mid new at count image fresh setting keeps same first unchanged none no_calls =
     let stays = unchanged (λ erased. first.written (erased at first.within)) in
     record {
       was = subst old.images (sym stays.now) image;
       first = subst (λ c. IsFirstWritten c at) (sym stays.now) first;
-      setting = subst (λ (c : List ℕ). new.setting ≡ record { faults = old.faults; arm = None; saved = c; moment = new.setting.moment; cycles = old.setting.cycles + 1 })
+      setting = subst (λ (c : List ℕ). new.setting ≡ record { faults = old.faults; arm = None; saved = c; moment = new.setting.moment; called = 0; cycles = old.setting.cycles + 1 })
           (sym stays.now) (set_after old mid new keeps.setting setting);
       no_fault = same ∙ count.faults;
       calls = no_calls (λ erased. first.written (erased at first.within)) ∙ none;
@@ -107,16 +108,18 @@ was_erased old mid image erased = (mid.now, image, erased)
 
 -- the flash failed while the node was provisioned
 pub fails_early : (records : List StoreRecord) (old mid new : Chip) → KeepsCount old mid → old.images mid.now → IsFresh mid
-    → mid.setting ≡ record { faults = old.faults; arm = None; saved = mid.now; moment = mid.moment; cycles = old.setting.cycles + 1 } → Keeps mid new → mid.faults < new.faults
+    → mid.setting ≡ record { faults = old.faults; arm = None; saved = mid.now; moment = mid.moment; called = 0; cycles = old.setting.cycles + 1 } → Keeps mid new → mid.faults < new.faults
     → ((t : ℕ) (c : List ℕ) → t ≤ new.moment → new.images c → new.since t c)
-    → (IsErased mid.now → LeavesOnly mid new (IsMade records)) → ((IsErased mid.now → ⊥) → Stays mid new) → mid.changes ≡ 0 → BeginsAtMost 8 mid new
-    → ((IsErased mid.now → ⊥) → new.changes ≡ mid.changes) → FailsEarly records old new
-fails_early records old mid new count image fresh setting keeps failed counts made unchanged none most no_calls = record {
+    → (IsErased mid.now → LeavesOnly mid new (IsMade records)) → ((IsErased mid.now → ⊥) → Stays mid new) → count_of mid ≡ only_slots 0 → BeginsAtMost 8 mid new
+    → ErasesAtMost 0 mid new → ProgramsAtMost 128 mid new → ((IsErased mid.now → ⊥) → count_of new ≡ count_of mid) → FailsEarly records old new
+fails_early records old mid new count image fresh setting keeps failed counts made unchanged none most most_erases most_octets no_calls = record {
   failed = omega (arith, count.faults, failed);
   setting = set_after old mid new keeps.setting setting;
   found = mid.now;
   was = image;
-  calls = omega (arith, most, none);
+  calls = omega (arith, most, ap (λ (n : CallCount). n.calls) none);
+  unerased = omega (arith, most_erases, ap (λ (n : CallCount). n.erases) none);
+  most_octets = omega (arith, most_octets, ap (λ (n : CallCount). n.octets) none);
   no_calls = λ other. no_calls other ∙ none;
   made = λ erased c among. let left = made erased in left.each c (counts mid.moment c left.later among);
   stays = λ other c among. fresh.only c ((unchanged other).images c among);
@@ -128,15 +131,23 @@ pub failed_first : {F : Type 0} (chip : F → Chip) (records : List StoreRecord)
 failed_first chip records old None early unfailed = early
 failed_first chip records old (Some f) early unfailed = unfailed (ap (λ (s : Setting). s.cycles) early.setting, early.failed)
 
--- so many calls were begun since power was cycled
-begun_since : (mid new : Chip) → mid.changes ≡ 0 → Begins 8 mid new → new.changes ≡ 8
-begun_since mid new none begins = begins ∙ ap (λ (k : ℕ). min (k + 8) 4294967295) none
+-- none was counted since power was cycled
+pub none_counted : (chip : Chip) → chip.changes ≡ 0 → chip.erases ≡ 0 → chip.octets ≡ 0 → count_of chip ≡ only_slots 0
+none_counted chip calls erases octets = λ i. record { calls = calls i; erases = erases i; octets = octets i }
+
+-- so many calls were begun since power was cycled, and none of them an erase call
+begun_since : (mid new : Chip) → count_of mid ≡ only_slots 0 → Begins 8 mid new → Erases 0 mid new → Programs 128 mid new → count_of new ≡ only_slots 4
+begun_since mid new none begins erases octets =
+    let calls : new.changes ≡ 8 = begins ∙ ap (λ (n : CallCount). min (n.calls + 8) 4294967295) none in
+    let erased : new.erases ≡ 0 = erases ∙ ap (λ (n : CallCount). min (n.erases + 0) 4294967295) none in
+    let programmed : new.octets ≡ 128 = octets ∙ ap (λ (n : CallCount). min (n.octets + 128) 4294967295) none in
+    λ i. record { calls = calls i; erases = erased i; octets = programmed i }
 
 -- the node was provisioned on it in this format
 pub was_provisioned : (format : ℕ) (p q : Provision) (old mid new : Chip) → p ≡ q → KeepsCount old mid → old.images mid.now
-    → mid.setting ≡ record { faults = old.faults; arm = None; saved = mid.now; moment = mid.moment; cycles = old.setting.cycles + 1 } → IsErased mid.now → Keeps mid new → new.faults ≡ mid.faults
-    → mid.changes ≡ 0 → Begins 8 mid new → IsProvisioned new (provisioned (provisioning p)) → IsInFormat format new → WasProvisioned format (provisioned (provisioning q)) old new
-was_provisioned format p q old mid new of count image setting erased keeps same none costs made is = record {
+    → mid.setting ≡ record { faults = old.faults; arm = None; saved = mid.now; moment = mid.moment; called = 0; cycles = old.setting.cycles + 1 } → IsErased mid.now → Keeps mid new → new.faults ≡ mid.faults
+    → count_of mid ≡ only_slots 0 → Begins 8 mid new → Erases 0 mid new → Programs 128 mid new → IsProvisioned new (provisioned (provisioning p)) → IsInFormat format new → WasProvisioned format (provisioned (provisioning q)) old new
+was_provisioned format p q old mid new of count image setting erased keeps same none costs erases octets made is = record {
   found = mid.now;
   was = image;
   erased = erased;
@@ -145,7 +156,7 @@ was_provisioned format p q old mid new of count image setting erased keeps same 
   faults = same ∙ count.faults;
   setting = set_after old mid new keeps.setting setting;
   steady = keeps.steady ∙ count.steady;
-  calls = begun_since mid new none costs;
+  calls = begun_since mid new none costs erases octets;
   past = past_more old mid new count.past keeps.past;
 }
 

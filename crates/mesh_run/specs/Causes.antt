@@ -1,6 +1,6 @@
 -- Where each status of a run comes.
 use Rattle.std.specs.Prelude.{◌≡◌, ◌⊎◌, ℕ, ◌+◌, ◌<◌, ◌≤◌, nat_lt, Bool, true, false, IsTrue, List, length, Option, Some, None, ⊤}
-use Rattle.flash_model.specs.Chip.{Chip, Remembers}
+use Rattle.flash_model.specs.Chip.{Chip, Remembers, count_of}
 use Rattle.script_definitions.specs.Reading.{Reading, reading}
 use Rattle.script_definitions.specs.Reading.Reading.{Fails, IsScript}
 use Rattle.script_definitions.specs.declared.kind.Grammar.{Grammar}
@@ -108,9 +108,9 @@ pub record IsWrittenAt (at : ℕ) (old new : Chip) : Type 0 where
   pub was : old.images new.now
   pub first : IsFirstWritten new.now at
   pub setting : new.setting
-      ≡ record { faults = old.faults; arm = None; saved = new.now; moment = new.setting.moment; cycles = old.setting.cycles + 1 }
+      ≡ record { faults = old.faults; arm = None; saved = new.now; moment = new.setting.moment; called = 0; cycles = old.setting.cycles + 1 }
   pub no_fault : new.faults ≡ old.faults
-  pub calls : new.changes ≡ 0
+  pub calls : count_of new ≡ record { calls = 0; erases = 0; octets = 0 }
   pub stays : (image : List ℕ) → new.images image → image ≡ new.now
 
 -- The flash failed in the first power cycle since then.

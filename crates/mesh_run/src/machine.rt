@@ -17,7 +17,7 @@ use mesh_machine::MeshMachine;
 use mesh_types::events::Event;
 use mesh_types::history::Entry;
 use node_limits::BEARER_LINES;
-use seq_word::{Dry, Keeper, Numbers};
+use seq_word::{Drawer, Dry, Keeper, Numbers};
 use std::alloc::Global;
 
 /// A machine that has memory for the entries of all lines that a life may have, before it handles an event. So the threads of the bearers take
@@ -94,6 +94,10 @@ impl Machine for ScriptMachine {
         early: &ReadBefore<'_, Self::Reader, Self::Reading>,
     ) -> Result<Answered, Stop> {
         self.machine.handle(n, flash, bearer, number, event, early)
+    }
+
+    fn inform(&mut self, n: &Numbers, d: &mut Drawer) {
+        self.machine.inform(n, d);
     }
 
     fn refill<F: Flash>(&mut self, n: &Numbers, flash: &mut F, dry: Dry) -> Result<u64, Stop> {

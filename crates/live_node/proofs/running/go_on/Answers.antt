@@ -31,7 +31,7 @@ returns-in-Ok-clause-ended g c before first =
     let life = c.tells.ensures.known (found_of (chip c.args.beginning.start)) c.args.beginning.flash s.over c.args.beginning.started.machine s.tie in
     rw c.streams_of.ensures.value
     (over g.S.ClockedSource.clocked g.S.Source.left g.S.Source.faults g.E.Sink.held g.E.Sink.pieces g.E.Sink.faults g.K.Sink.held g.K.Sink.pieces g.K.Sink.faults
-    (Stood g.M.Machine.view (g.M.Machine.stands (found_of (chip c.args.beginning.start))) chip lived.flash) g.M.Machine.role g.M.Machine.image _ c.args.beginning.bearers (chip c.args.beginning.start) (chip lived.flash) c.args.beginning.flash lived.flash
+    (Stood g.M.Machine.view (g.M.Machine.stands (found_of (chip c.args.beginning.start))) chip lived.flash) g.M.Machine.role g.M.Machine.image _ _ c.args.beginning.bearers (chip c.args.beginning.start) (chip lived.flash) c.args.beginning.flash lived.flash
     lines c.live_on-lived.new.source c.args.report c.live_on-lived.new.sink c.end_status-status.new.report.sink lived.refills lived.drawn lived.closed
     (streams_at g.S.Source.left g.S.Source.faults g.E.Sink.held g.E.Sink.pieces g.E.Sink.faults (record { source = lines.lines.source; errors = lines.lines.errors; sink = c.args.report.sink }))
     before c.args.opened c.life_law.ensures.whole first
@@ -70,7 +70,7 @@ returns-in-Err-clause-ended g c before first =
     let life = c.tells.ensures.known (found_of (chip c.args.beginning.start)) c.args.beginning.flash s.over c.args.beginning.started.machine s.tie in
     rw c.streams_of-in-Err.ensures.value
     (short g.S.ClockedSource.clocked g.S.Source.left g.S.Source.faults g.E.Sink.held g.E.Sink.pieces g.E.Sink.faults g.K.Sink.held g.K.Sink.pieces g.K.Sink.faults
-    (λ _ _. ⊤) g.M.Machine.role g.M.Machine.image _ c.args.beginning.bearers (chip c.args.beginning.start) (chip c.args.beginning.flash) c.args.beginning.flash c.args.beginning.flash
+    (λ _ _. ⊤) g.M.Machine.role g.M.Machine.image _ _ c.args.beginning.bearers (chip c.args.beginning.start) (chip c.args.beginning.flash) c.args.beginning.flash c.args.beginning.flash
     lines c.live_on-lived.new.source c.args.report c.live_on-lived.new.sink c.live_on-lived.new.sink.sink 0 (record { next = 0; mark = 0; drawn = []; looks = []; advances = [] }) Rattle.std.proofs.Common.false
     (streams_at g.S.Source.left g.S.Source.faults g.E.Sink.held g.E.Sink.pieces g.E.Sink.faults (record { source = lines.lines.source; errors = lines.lines.errors; sink = c.args.report.sink }))
     before c.args.opened c.life_law.ensures.whole first

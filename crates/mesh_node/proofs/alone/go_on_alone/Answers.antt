@@ -2,8 +2,10 @@ use Rattle.std.proofs.Common.{◌≡◌, ◌∙◌, ◌++◌, ◌∷◌, [], Lis
 use Rattle.std.proofs.lemmas.List.{length-map, length-replicate}
 use Rattle.mesh_types.specs.declared.events.Event.{Event}
 use Rattle.life_laws.specs.Phases.{both_of}
+use Rattle.mesh_node.specs.Due.{IsDueSince}
 use Rattle.mesh_node.specs.Going.{IsGoing, IsOver}
 use Rattle.mesh_node.specs.Told.{GivesNone, IsPartDone, did_of, entries_told, sends_told}
+use Rattle.mesh_node.proofs.Asking.{due_node}
 use Rattle.mesh_node.proofs.Following.{same_more}
 use Rattle.mesh_node.proofs.Phasing.{one_item}
 use Rattle.mesh_node.proofs.Telling.{first_goes, goes_more, on_err, short_before, short_in, went_last, went_none}
@@ -20,7 +22,7 @@ loop-phase-init g c =
       counts = ap length c.requires.counts ∙ length-replicate life.bearers 0;
       usable = c.requires.usable;
       known = c.known.ensures.known;
-      under = first_goes g.S.PhaseSource.steps g.T.PhaseSink.steps c.args.source.now c.args.sink.now life.bearers life.node life.seats.drawer life.seats.counts.items
+      under = first_goes (IsDueSince g.M.Machine.role g.M.Machine.quiet (g.F.Flash.chip c.args.life.node.start)) g.S.PhaseSource.steps g.T.PhaseSink.steps c.args.source.now c.args.sink.now life.bearers life.node life.seats.drawer life.seats.counts.items
           c.requires.begins c.requires.between.taken c.requires.between.live c.requires.drawn c.requires.counts;
     }
 
@@ -28,21 +30,26 @@ pub returns-in-Err-clause-went : goal.returns-in-Err-clause-went
 returns-in-Err-clause-went g c =
     let l = c.loop-phase in
     let S = g.S.PhaseSource.steps in
-    went_none S g.T.PhaseSink.steps c.args.source.now l.source c.args.sink.now l.sink c.args.life.bearers l.node l.seats.drawer c.args.life.node.flash l.seats.counts.items l.invariant.counts l.invariant.under l.invariant.usable c.ask.new.source c.in-Err.last
-    (subst (λ n. GivesNone S c.args.life.bearers n c.in-Err.last l.source c.ask.new.source) (sym (l.invariant.same.elements ∙ c.requires.elements)) c.in-Err.ensures.none)
+    let due = due_node {chip = g.F.Flash.chip} g.M.Machine.quiet c.one_list_is_recovered.ensures.one_list l.node c.args.life.node.start l.invariant.same.start l.invariant.known c.due.result (c.due.ensures.least l.invariant.usable) (entries_told l.invariant.under.did) l.invariant.under.told.entries_are in
+    went_none (IsDueSince g.M.Machine.role g.M.Machine.quiet (g.F.Flash.chip c.args.life.node.start)) S g.T.PhaseSink.steps c.args.source.now l.source c.args.sink.now l.sink c.args.life.bearers l.node l.seats.drawer c.args.life.node.flash l.seats.counts.items l.invariant.counts l.invariant.under l.invariant.usable c.ask.new.source c.due.result due c.in-Err.last
+    (subst (λ n. GivesNone S c.args.life.bearers n c.due.result c.in-Err.last l.source c.ask.new.source) (sym (l.invariant.same.elements ∙ c.requires.elements)) c.in-Err.ensures.none)
 
 pub returns-in_err-done-clause-short : goal.returns-in_err-done-clause-short
 returns-in_err-done-clause-short g c =
     let l = c.loop-phase in
     let inv = l.invariant in
+    let S = g.S.PhaseSource.steps in
+    let bearers = c.args.life.bearers in
     let events = map (λ v. v.items) c.in-Ok.lists.items in
-    on_err c.from_residual.result (short_in {chip = g.F.Flash.chip} g.S.PhaseSource.steps g.T.PhaseSink.steps c.args.source.now l.source c.args.sink.now l.sink c.args.life.bearers l.node l.seats.drawer c.args.life.node.flash l.seats.counts.items inv.known c.args.life.node.start inv.same.start inv.under events c.ask.new.source c.in-Ok.ensures.gives)
+    let gave = subst (λ n. S.gives bearers n c.due.result l.source events c.ask.new.source) (sym (inv.same.elements ∙ c.requires.elements)) c.in-Ok.ensures.gives in
+    let due = due_node {chip = g.F.Flash.chip} g.M.Machine.quiet c.one_list_is_recovered.ensures.one_list l.node c.args.life.node.start inv.same.start inv.known c.due.result (c.due.ensures.least inv.usable) (entries_told inv.under.did) inv.under.told.entries_are in
+    on_err c.from_residual.result (short_in {chip = g.F.Flash.chip} (IsDueSince g.M.Machine.role g.M.Machine.quiet (g.F.Flash.chip c.args.life.node.start)) g.S.PhaseSource.steps g.T.PhaseSink.steps c.args.source.now l.source c.args.sink.now l.sink c.args.life.bearers l.node l.seats.drawer c.args.life.node.flash l.seats.counts.items inv.known c.args.life.node.start inv.same.start inv.under c.due.result due events c.ask.new.source gave)
 
 pub returns-clause-short : goal.returns-clause-short
 returns-clause-short g c =
     let l = c.loop-phase in
     let inv = l.invariant in
-    short_before {chip = g.F.Flash.chip} g.S.PhaseSource.steps g.T.PhaseSink.steps c.args.source.now l.source c.args.sink.now l.sink c.args.life.bearers l.node l.seats.drawer c.args.life.node.flash l.seats.counts.items inv.known c.args.life.node.start inv.same.start inv.under
+    short_before {chip = g.F.Flash.chip} (IsDueSince g.M.Machine.role g.M.Machine.quiet (g.F.Flash.chip c.args.life.node.start)) g.S.PhaseSource.steps g.T.PhaseSink.steps c.args.source.now l.source c.args.sink.now l.sink c.args.life.bearers l.node l.seats.drawer c.args.life.node.flash l.seats.counts.items inv.known c.args.life.node.start inv.same.start inv.under
 
 pub tell_phase-requires : goal.tell_phase-requires
 tell_phase-requires g c =
@@ -58,6 +65,7 @@ returns-in-Some-clause-went g c =
     let bearers = c.args.life.bearers in
     let events = map (λ v. v.items) c.in-Ok.lists.items in
     let one : c.as_slice.result.now ∷ [] ≡ events = ap (λ l. l ∷ []) c.as_slice.ensures.value ∙ ap (map (λ v. v.items)) (ap (λ v. v ∷ []) c.index.ensures ∙ one_item c.in-Ok.lists.items c.index.result.now (c.in-Ok.ensures.long ∙ c.requires.alone)) in
+    let gave = subst (λ n. S.gives bearers n c.due.result l.source events c.ask.new.source) (sym (inv.same.elements ∙ c.requires.elements)) c.in-Ok.ensures.gives in
     let h = inv.under in
     let sends = sends_told bearers h.did in
     let done = c.in_ok-done.done in
@@ -70,8 +78,9 @@ returns-in-Some-clause-went g c =
     let over : done.closed ≡ true → IsOver (h.phases ++ events ∷ []) done.node drawer (both_of sends lines) = subst (λ (es : List (List Event)). done.closed ≡ true → IsOver (h.phases ++ es ∷ []) done.node drawer (both_of sends lines)) one (said.over h.phases [] sends h.going) in
     let told = said.told (entries_told h.did) h.told in
     let size = length-map done.log.sends.items (λ v. v.items) ∙ said.bearers in
-    went_last S T c.args.source.now l.source c.args.sink.now l.sink bearers l.node l.seats.drawer c.args.life.node.flash l.seats.counts.items inv.counts h events (did_of done.log) done.node c.one_phase_alone.new.seats.drawer c.one_phase_alone.new.seats.counts.items done.closed c.ask.new.source c.tell_phase.new.sink
-    c.in-Ok.ensures.gives (said.place ∙ inv.between.count) size part told going over said.closed c.in-Some.last c.in-Some.ensures.some
+    let due = due_node {chip = g.F.Flash.chip} g.M.Machine.quiet c.one_list_is_recovered.ensures.one_list l.node c.args.life.node.start inv.same.start inv.known c.due.result (c.due.ensures.least inv.usable) (entries_told inv.under.did) inv.under.told.entries_are in
+    went_last (IsDueSince g.M.Machine.role g.M.Machine.quiet (g.F.Flash.chip c.args.life.node.start)) S T c.args.source.now l.source c.args.sink.now l.sink bearers l.node l.seats.drawer c.args.life.node.flash l.seats.counts.items inv.counts h c.due.result due events (did_of done.log) done.node c.one_phase_alone.new.seats.drawer c.one_phase_alone.new.seats.counts.items done.closed c.ask.new.source c.tell_phase.new.sink
+    gave said.frame.elements (said.place ∙ inv.between.count) size part told going over said.closed c.in-Some.last c.in-Some.ensures.some
 
 pub loop-phase-preserved : goal.loop-phase-preserved
 loop-phase-preserved g c =
@@ -82,6 +91,7 @@ loop-phase-preserved g c =
     let bearers = c.args.life.bearers in
     let events = map (λ v. v.items) c.in-Ok.lists.items in
     let one : c.as_slice.result.now ∷ [] ≡ events = ap (λ l. l ∷ []) c.as_slice.ensures.value ∙ ap (map (λ v. v.items)) (ap (λ v. v ∷ []) c.index.ensures ∙ one_item c.in-Ok.lists.items c.index.result.now (c.in-Ok.ensures.long ∙ c.requires.alone)) in
+    let gave = subst (λ n. S.gives bearers n c.due.result l.source events c.ask.new.source) (sym (inv.same.elements ∙ c.requires.elements)) c.in-Ok.ensures.gives in
     let h = inv.under in
     let sends = sends_told bearers h.did in
     let done = c.in_ok-done.done in
@@ -94,6 +104,7 @@ loop-phase-preserved g c =
     let over : done.closed ≡ true → IsOver (h.phases ++ events ∷ []) done.node drawer (both_of sends lines) = subst (λ (es : List (List Event)). done.closed ≡ true → IsOver (h.phases ++ es ∷ []) done.node drawer (both_of sends lines)) one (said.over h.phases [] sends h.going) in
     let told = said.told (entries_told h.did) h.told in
     let size = length-map done.log.sends.items (λ v. v.items) ∙ said.bearers in
+    let due = due_node {chip = g.F.Flash.chip} g.M.Machine.quiet c.one_list_is_recovered.ensures.one_list l.node c.args.life.node.start inv.same.start inv.known c.due.result (c.due.ensures.least inv.usable) (entries_told inv.under.did) inv.under.told.entries_are in
     let takes = c.in_default.ensures.none refl in
     record {
       numbers = c.one_phase_alone.ensures.numbers ∙ inv.numbers;
@@ -103,6 +114,6 @@ loop-phase-preserved g c =
       counts = said.many ∙ inv.counts;
       usable = sym said.closed ∙ takes.0;
       known = said.known;
-      under = goes_more S T c.args.source.now l.source c.args.sink.now l.sink bearers l.node l.seats.drawer c.args.life.node.flash l.seats.counts.items inv.counts h events (did_of done.log) done.node c.one_phase_alone.new.seats.drawer c.one_phase_alone.new.seats.counts.items done.closed c.ask.new.source c.tell_phase.new.sink
-          c.in-Ok.ensures.gives (said.place ∙ inv.between.count) size part told going over said.closed takes.0 takes.1;
+      under = goes_more (IsDueSince g.M.Machine.role g.M.Machine.quiet (g.F.Flash.chip c.args.life.node.start)) S T c.args.source.now l.source c.args.sink.now l.sink bearers l.node l.seats.drawer c.args.life.node.flash l.seats.counts.items inv.counts h c.due.result due events (did_of done.log) done.node c.one_phase_alone.new.seats.drawer c.one_phase_alone.new.seats.counts.items done.closed c.ask.new.source c.tell_phase.new.sink
+          gave said.frame.elements (said.place ∙ inv.between.count) size part told going over said.closed takes.0 takes.1;
     }

@@ -2,7 +2,7 @@ use Rattle.std.proofs.Common.{◌≡◌, ◌∙◌, [], ◌∷◌, ◌++◌, ap,
 use Rattle.node_phase.specs.Part.{AreThrough, HadMemory}
 use Rattle.node_phase.specs.Worked.{WasPhase}
 use Rattle.life_laws.specs.Stopped.{HasStopped}
-use Rattle.mesh_node.proofs.Phasing.{IsPhase, arm_is, bearers_is, between_is, closed_is, frame_is, going_is, known_is, many_is, one_item, over_is, part_done, parts_is, room_is, saved_is, stopped_is, told_is}
+use Rattle.mesh_node.proofs.Phasing.{IsPhase, arm_is, bearers_is, between_is, called_is, closed_is, frame_is, going_is, known_is, many_is, moment_is, one_item, over_is, part_done, parts_is, room_is, saved_is, stopped_is, told_is}
 use Rattle.mesh_node.proofs.alone.one_phase_alone.Goals as goal
 
 pub returns : goal.returns
@@ -45,6 +45,8 @@ returns g c =
       frame = frame_is p;
       arm = arm_is p;
       saved = saved_is p;
+      called = called_is p;
+      moment = moment_is p;
       closed = closed_is p;
       stopped = stopped_is p;
       known = known_is p;

@@ -113,5 +113,6 @@ returns g c =
     (ap (λ n. n.opened) (c.do_steps.ensures.numbers ∙ c.in_ok-seats.ensures.words.0) ∙ s.opened)
     c.close-drawn.ensures.since c.close-drawn.ensures.below c.close-drawn.ensures.once c.close-drawn.ensures.seen
     c.close-drawn.result refl closes c.known.ensures.stands moved
-    c.args.plan.now.bearers c.requires.few did.many ((g.met.F.Bench g.world.𝓛 g.world.𝓜 g.world.𝓡 ((λ s x. x), (λ x. x), (λ x. x), λ x. x)).explained node.flash) given order placed calls in
+    c.args.plan.now.bearers c.requires.few did.many ((g.met.F.Bench g.world.𝓛 g.world.𝓜 g.world.𝓡 ((λ s x. x), (λ x. x), (λ x. x), λ x. x)).explained node.flash) given order placed calls
+    (did.saved ∙ ap (λ n. (chip n.flash).setting.saved) c.in_ok-opened.ensures.value ∙ ap (λ (s : Setting). s.saved) c.requires.kept.setting) in
     record { ran = subst (Ran g.M.Machine.view g.M.Machine.stands chip g.M.Machine.role g.M.Machine.image plan (chip start) log) (sym c.into_parts-machine.ensures.flash) whole }

@@ -69,3 +69,9 @@ returns-in-Arm-clause-told g c = λ told.
 pub returns-in-Arm-clause-between : goal.returns-in-Arm-clause-between
 returns-in-Arm-clause-between g c = λ off.
     subst (IsBetween c.args.seats.now) (sym c.arm.ensures.frame) (between_with c.args.seats.now c.args.node c.arm.new.self.flash c.requires.between)
+
+pub returns-in-Arm-clause-saved : goal.returns-in-Arm-clause-saved
+returns-in-Arm-clause-saved g c = c.arm.ensures.saved
+
+pub returns-in-Phase-clause-saved : goal.returns-in-Phase-clause-saved
+returns-in-Phase-clause-saved g c = c.do_phase.ensures.saved

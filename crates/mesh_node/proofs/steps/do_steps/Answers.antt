@@ -28,6 +28,7 @@ loop-step-init g c =
       going = going_first node c.args.seats.now.drawer c.args.bearers (map (λ v. v.items) sends) counts c.requires.begins c.requires.between.live c.requires.drawn no_sends no_counts;
       told = record { entries_are = c.requires.begins ∙ sym c.in_ok-log.ensures.entries; taken = c.requires.between.taken };
       order = inl refl;
+      saved = refl;
       held = λ some. some;
       given = given_none (g.F.Flash.chip node.flash).setting.arm;
       placed = λ over read. inl refl;
@@ -75,6 +76,7 @@ loop-step-preserved g c =
           (did.going (phases_of (steps_of (take i steps))) inv.going c.if-closed.false);
       told = did.told inv.told;
       order = order_more (steps_of steps) x first old new (among_steps steps i x lt is) inv.order did.arm;
+      saved = did.saved ∙ inv.saved;
       held = λ some. held_more x old new did.arm (inv.held some);
       given = subst (λ ss. HasGiven (steps_of ss) new.setting.arm) (sym (taken steps i x lt is)) (given_more (take i steps) x old new did.arm inv.given);
       placed = λ over read.
@@ -108,6 +110,12 @@ returns-clause-given g c = λ live.
     let l = c.loop-step in
     let steps = c.args.steps.now in
     subst (λ ss. HasGiven (steps_of ss) (g.F.Flash.chip l.node.flash).setting.arm) (take_all l.step-index steps (omega arith)) l.invariant.given
+
+pub returns-clause-saved : goal.returns-clause-saved
+returns-clause-saved g c = c.loop-step.invariant.saved
+
+pub returns-then-closed-clause-saved : goal.returns-then-closed-clause-saved
+returns-then-closed-clause-saved g c = c.in_ok-next.ensures.saved ∙ c.loop-step.invariant.saved
 
 pub returns-clause-held : goal.returns-clause-held
 returns-clause-held g c = c.loop-step.invariant.held

@@ -21,6 +21,7 @@ invariant-loop-step g l = record {
   going : IsGoing (phases_of (steps_of (take l.step-index l.steps))) l.node l.seats.drawer (map (λ v. v.items) l.log.sends.items) l.seats.counts.items;
   told : AreTold l.log.entries.items l.node;
   order : IsSameOrOf (steps_of l.steps) (g.F.Flash.chip l.fn.node.flash).setting.arm (g.F.Flash.chip l.node.flash).setting.arm;
+  saved : (g.F.Flash.chip l.node.flash).setting.saved ≡ (g.F.Flash.chip l.fn.node.flash).setting.saved;
   held : (g.F.Flash.chip l.fn.node.flash).setting.arm ≢ None → (g.F.Flash.chip l.node.flash).setting.arm ≢ None;
   given : HasGiven (steps_of (take l.step-index l.steps)) (g.F.Flash.chip l.node.flash).setting.arm;
   placed : (over : List StoreRecord) → IsRecovered (g.F.Flash.chip l.fn.node.start).now over → IsSameOrPlaced g.M.Machine.view (g.M.Machine.stands (found_of (g.F.Flash.chip l.fn.node.start))) g.F.Flash.chip over (steps_of l.steps) (g.F.Flash.chip l.fn.node.flash).setting.arm (g.F.Flash.chip l.node.flash).setting.arm;

@@ -12,7 +12,7 @@ use Rattle.mesh_run.specs.Causes.{IsSameFlash, IsWrittenAt}
 use Rattle.mesh_run.specs.Kind.{kind_of}
 use Rattle.mesh_run.specs.Lived.{IsMemory, IsSinkFault, flash_left}
 use Rattle.mesh_run.specs.Ran.{FrontFrom, RanFirst, RanFrom, RanFront}
-use Rattle.mesh_run.proofs.Ends.{cycled, failed_first, fails_early, same_left, through, was_provisioned, written_as, written_at}
+use Rattle.mesh_run.proofs.Ends.{cycled, failed_first, fails_early, none_counted, same_left, through, was_provisioned, written_as, written_at}
 use Rattle.mesh_run.proofs.scripts.run_script.Goals as goal
 
 pub returns-in-Err-Flash-clause-ends : goal.returns-in-Err-Flash-clause-ends
@@ -28,7 +28,7 @@ returns-in-Err-Flash-clause-ends g c =
     let cause = subst (IsFormatCause mid new) c.in-Err-Flash.field-0-is c.in-Err-Flash.ensures.cause in
     let early : FailsEarly (provisioned (provisioning c.provision_of.result)) old new =
     fails_early (provisioned (provisioning c.provision_of.result)) old mid new cycle.frame (cycle.image c.requires.honest) fresh cycle.setting did.frame cause
-    (law.counts_now c.provision.new.flash) (did.any_moment fresh) (did.unchanged fresh.honest) cycle.changes did.costs.most_calls (did.no_calls fresh.honest) in
+    (law.counts_now c.provision.new.flash) (did.any_moment fresh) (did.unchanged fresh.honest) (none_counted mid cycle.changes cycle.erases cycle.octets) did.costs.most_calls did.costs.most_erases did.costs.most_octets (did.no_calls fresh.honest) in
     let records = provisioned (provisioning (provision_of (g.S.LifeSource.script c.args.script.now).provision)) in
     let said : FailsEarly records old new = subst (λ (p : Provision). FailsEarly (provisioned (provisioning p)) old new) (c.provision_of.ensures.value ∙ ap provision_of c.node.ensures.value) early in
     let left : IsSomeAnd c.with_flash.result.flash (λ f. FailsEarly records old (chip f)) = subst (λ e. IsSomeAnd e.flash (λ f. FailsEarly records old (chip f))) (sym c.with_flash.ensures.value) said in
@@ -58,7 +58,7 @@ returns-in-Err-NotErased-clause-ends g c =
     let cause = subst (IsFormatCause mid new) c.in-Err-NotErased.field-0-is c.in-Err-NotErased.ensures.cause in
     let said : IsWrittenAt c.in-Err-NotErased.at old new =
     written_at old mid new c.in-Err-NotErased.at cycle.frame (cycle.image c.requires.honest) fresh cycle.setting c.provision.ensures.frame cause.0
-    (cause.1 fresh.honest) (c.provision.ensures.unchanged fresh.honest) cycle.changes (c.provision.ensures.no_calls fresh.honest) in
+    (cause.1 fresh.honest) (c.provision.ensures.unchanged fresh.honest) (none_counted mid cycle.changes cycle.erases cycle.octets) (c.provision.ensures.no_calls fresh.honest) in
     record {
       due = search rules;
       write_fault = search rules;
@@ -94,7 +94,7 @@ returns-in-Ok-live_all-clause-done g c = λ is.
     let was : WasProvisioned format (provisioned s.node) old start =
     was_provisioned format c.provision_of.result (provision_of (g.S.LifeSource.script c.args.script.now).provision) old (chip c.power_cycle.new.self) start (c.provision_of.ensures.value ∙ ap provision_of c.node.ensures.value) cycle.frame
     (cycle.image c.requires.honest) cycle.setting (c.in-Ok.ensures.erased fresh.honest) c.provision.ensures.frame c.in-Ok.ensures.no_fault
-    cycle.changes c.in-Ok.ensures.costs.calls (c.in-Ok.ensures.provisioned fresh) (c.in-Ok.ensures.format fresh) in
+    (none_counted (chip c.power_cycle.new.self) cycle.changes cycle.erases cycle.octets) c.in-Ok.ensures.costs.calls c.in-Ok.ensures.costs.erases c.in-Ok.ensures.costs.octets (c.in-Ok.ensures.provisioned fresh) (c.in-Ok.ensures.format fresh) in
     subst (λ e. IsSomeAnd e.flash (λ f. RanFrom chip kind format s told old before f after))
     (sym c.with_flash-in-Ok-live_all.ensures.value) (record { start = c.provision.new.flash; provisioned = was; ran = c.in-Ok-live_all.ensures.all })
 
@@ -116,7 +116,7 @@ returns-in-Err-Fault-clause-front g c = λ is.
     let was : WasProvisioned format (provisioned s.node) old start =
     was_provisioned format c.provision_of.result (provision_of (g.S.LifeSource.script c.args.script.now).provision) old (chip c.power_cycle.new.self) start (c.provision_of.ensures.value ∙ ap provision_of c.node.ensures.value) cycle.frame
     (cycle.image c.requires.honest) cycle.setting (c.in-Ok.ensures.erased fresh.honest) c.provision.ensures.frame c.in-Ok.ensures.no_fault
-    cycle.changes c.in-Ok.ensures.costs.calls (c.in-Ok.ensures.provisioned fresh) (c.in-Ok.ensures.format fresh) in
+    (none_counted (chip c.power_cycle.new.self) cycle.changes cycle.erases cycle.octets) c.in-Ok.ensures.costs.calls c.in-Ok.ensures.costs.erases c.in-Ok.ensures.costs.octets (c.in-Ok.ensures.provisioned fresh) (c.in-Ok.ensures.format fresh) in
     let ran : RanFront chip kind s told broken c.provision.new.flash before c.in-Err-Fault.flash after =
     subst (λ e. IsSinkFault (Err e) → IsSomeAnd (flash_left (Err e)) (λ f. RanFront chip kind s told broken c.provision.new.flash before f after)) c.in-Err-Fault.field-0-is c.in-Err-Fault.ensures.front tt in
     subst (λ e. IsSomeAnd e.flash (λ f. FrontFrom chip kind format s told broken old before f after))
@@ -140,7 +140,7 @@ returns-in-Err-Memory-clause-whole g c = λ is.
     let was : WasProvisioned format (provisioned s.node) old start =
     was_provisioned format c.provision_of.result (provision_of (g.S.LifeSource.script c.args.script.now).provision) old (chip c.power_cycle.new.self) start (c.provision_of.ensures.value ∙ ap provision_of c.node.ensures.value) cycle.frame
     (cycle.image c.requires.honest) cycle.setting (c.in-Ok.ensures.erased fresh.honest) c.provision.ensures.frame c.in-Ok.ensures.no_fault
-    cycle.changes c.in-Ok.ensures.costs.calls (c.in-Ok.ensures.provisioned fresh) (c.in-Ok.ensures.format fresh) in
+    (none_counted (chip c.power_cycle.new.self) cycle.changes cycle.erases cycle.octets) c.in-Ok.ensures.costs.calls c.in-Ok.ensures.costs.erases c.in-Ok.ensures.costs.octets (c.in-Ok.ensures.provisioned fresh) (c.in-Ok.ensures.format fresh) in
     record {
       start = c.provision.new.flash;
       provisioned = was;

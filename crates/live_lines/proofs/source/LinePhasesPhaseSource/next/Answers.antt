@@ -4,7 +4,7 @@ use Rattle.std.proofs.lemmas.Option.{IfSome_then}
 use Rattle.node_bearer.specs.Did.{AreEvents}
 use Rattle.live_lines.proofs.Events.{lists_fit, lists_long}
 use Rattle.live_lines.proofs.Nexts.{fails_from, fails_now, given, none_of}
-use Rattle.live_lines.specs.Sources.{IsLive}
+use Rattle.live_lines.specs.Sources.{IsLiveFor}
 use Rattle.live_lines.specs.States.{lines_behind}
 use Rattle.live_lines.specs.Turns.{IsFrontOf}
 use Rattle.live_lines.proofs.source.LinePhasesPhaseSource.next.Goals as goal
@@ -29,7 +29,7 @@ returns-in-Ok-clause-gives g c =
     let new = c.next_phase.new.self in
     let none : old.lines.why ≡ None = none_of old.lines.why (sym c.is_some.ensures ∙ c.if-is_some.false) in
     given (λ lists. map (λ v. v.items) lists.items) c.in-Ok.phase old.lines.bearers old.lines.elements g.S.ClockedSource.clocked new.front
-    (λ used. at used old.lines) (λ now. at now new.lines) (λ used. IsFrontOf old.front used) (IsLive old new) (none, c.in-Ok.ensures.frame) c.in-Ok.ensures.ok
+    (λ used. at used old.lines) (λ now. at now new.lines) (λ used. IsFrontOf old.front used) (IsLiveFor c.args.bearers c.args.elements old new) ((omega arith, omega arith), (none, c.in-Ok.ensures.frame)) c.in-Ok.ensures.ok
 
 pub returns-in-Err-clause-fails : goal.returns-in-Err-clause-fails
 returns-in-Err-clause-fails g c =

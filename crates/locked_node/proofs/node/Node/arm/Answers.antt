@@ -22,7 +22,8 @@ invariant_of-self g c =
         now = stays.now;
         faults = kept.faults;
         began = began;
-        changes = c.arm.ensures.changes;
+        count = λ i. record { calls = c.arm.ensures.changes i; erases = c.arm.ensures.erases i; octets = c.arm.ensures.octets i };
+        reads = c.arm.ensures.reads;
       }) h.tie;
       few = h.few;
       live = h.live;

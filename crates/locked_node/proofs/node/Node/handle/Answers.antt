@@ -1,13 +1,17 @@
-use Rattle.std.proofs.Common.{◌∙◌, ◌+◌, ap, refl, subst, sym}
+use Rattle.std.proofs.Common.{◌≡◌, ◌∙◌, ◌+◌, false, ◌∷◌, ◌++◌, [], ap, arith, length, refl, subst, sym}
 use Rattle.machine_contract.specs.declared.answers.Hand.TheVariants as H
 use Rattle.machine_contract.specs.Refused.{IsRefused}
-use Rattle.machine_contract.specs.View.{entry_for}
+use Rattle.machine_contract.specs.Opening.{found_of}
+use Rattle.machine_contract.specs.View.{entry_for, with_entry}
+use Rattle.seq_word.specs.Seen.{last_word, went_to}
 use Rattle.turn_lock.specs.Entries.{IsPrefix}
 use Rattle.locked_node.specs.Asked.{AreAsked}
-use Rattle.locked_node.specs.Node.{NodeView, node_marks}
+use Rattle.locked_node.specs.declared.marks.Mark.TheVariants as M
+use Rattle.locked_node.specs.Node.{HasBeenTold, NodeView, node_marks}
 use Rattle.locked_node.specs.Stands.{Holds}
 use Rattle.locked_node.proofs.Asking.{asked_entry, holds_on}
-use Rattle.locked_node.proofs.Counts.{front_more}
+use Rattle.locked_node.proofs.Counts.{entered, entered_front, front_more, length_marks}
+use Rattle.locked_node.proofs.Told.{last_more, moves_long, told_last}
 use Rattle.locked_node.proofs.node.Node.handle.Goals as goal
 
 pub returns-in-Err-Closed-clause-front : goal.returns-in-Err-Closed-clause-front
@@ -24,6 +28,66 @@ returns-in-Err-Closed-clause-front g c =
     let more = ap (λ h. h.stops + 1) c.deref_mut.ensures.value ∙ ap (λ h. h.stops + 1) c.deref_mut-held.ensures.value in
     subst (λ v. IsPrefix (node_marks v) (node_marks new)) c.self.view_is (front_more old new same more (c.self.invariant.stopped refused.0))
 
+-- the entry, with the move behind it
+pub returns-in-Ok-clause-ok : goal.returns-in-Ok-clause-ok
+returns-in-Ok-clause-ok g c =
+    let view = g.M.Machine.view in
+    let was = c.self.inside.held.value in
+    let held = c.deref_mut-held.result.now in
+    let h = c.self.invariant in
+    let a = c.in-Ok.answered in
+    let old : NodeView g.row.F.Denot = record { machine = view was.machine; start = was.start; flash = was.flash; stops = was.stops } in
+    let new : NodeView g.row.F.Denot = record { machine = view c.inform.new.self; start = held.start; flash = c.handle.new.flash; stops = held.stops } in
+    let move = last_word (went_to (g.M.Machine.advances c.handle.new.self)) in
+    let mark = (view c.handle.new.self).mark in
+    let is : new.machine ≡ with_entry old.machine (entry_for old.machine c.args.bearer c.args.number c.args.event.now a.answer a.jobs) move mark =
+    ap view c.inform.ensures.same
+    ∙ subst (λ x. view c.handle.new.self ≡ with_entry (view x.machine) (entry_for (view x.machine) c.args.bearer c.args.number c.args.event.now a.answer a.jobs) move mark) c.deref_mut-held.ensures.value c.in-Ok.ensures.ok in
+    let none = h.live (subst (λ x. (view x.machine).closed ≡ false) c.deref_mut-held.ensures.value c.in-Ok.ensures.usable) in
+    let long = moves_long _ _ _ _ h.over (view was.machine) (c.tells.ensures.known (found_of (g.F.Flash.chip was.start)) was.flash h.over was.machine h.tie) in
+    let same = ap (λ x. x.stops) c.deref_mut-held.ensures.value in
+    subst (λ v. node_marks new ≡ node_marks v ++ M.Handled (entry_for v.machine c.args.bearer c.args.number c.args.event.now a.answer a.jobs) (last_word new.machine.moves) ∷ []) c.self.view_is
+    (entered old new (entry_for old.machine c.args.bearer c.args.number c.args.event.now a.answer a.jobs) move mark is none same long)
+
+pub returns-in-Ok-clause-front : goal.returns-in-Ok-clause-front
+returns-in-Ok-clause-front g c =
+    let view = g.M.Machine.view in
+    let was = c.self.inside.held.value in
+    let held = c.deref_mut-held.result.now in
+    let h = c.self.invariant in
+    let a = c.in-Ok.answered in
+    let old : NodeView g.row.F.Denot = record { machine = view was.machine; start = was.start; flash = was.flash; stops = was.stops } in
+    let new : NodeView g.row.F.Denot = record { machine = view c.inform.new.self; start = held.start; flash = c.handle.new.flash; stops = held.stops } in
+    let move = last_word (went_to (g.M.Machine.advances c.handle.new.self)) in
+    let mark = (view c.handle.new.self).mark in
+    let is : new.machine ≡ with_entry old.machine (entry_for old.machine c.args.bearer c.args.number c.args.event.now a.answer a.jobs) move mark =
+    ap view c.inform.ensures.same
+    ∙ subst (λ x. view c.handle.new.self ≡ with_entry (view x.machine) (entry_for (view x.machine) c.args.bearer c.args.number c.args.event.now a.answer a.jobs) move mark) c.deref_mut-held.ensures.value c.in-Ok.ensures.ok in
+    let none = h.live (subst (λ x. (view x.machine).closed ≡ false) c.deref_mut-held.ensures.value c.in-Ok.ensures.usable) in
+    let long = moves_long _ _ _ _ h.over (view was.machine) (c.tells.ensures.known (found_of (g.F.Flash.chip was.start)) was.flash h.over was.machine h.tie) in
+    let same = ap (λ x. x.stops) c.deref_mut-held.ensures.value in
+    subst (λ v. IsPrefix (node_marks v) (node_marks new)) c.self.view_is
+    (entered_front old new (entry_for old.machine c.args.bearer c.args.number c.args.event.now a.answer a.jobs) move mark is none same long)
+
+pub returns-in-Ok-clause-place : goal.returns-in-Ok-clause-place
+returns-in-Ok-clause-place g c =
+    let view = g.M.Machine.view in
+    let was = c.self.inside.held.value in
+    let a = c.in-Ok.answered in
+    let none = c.self.invariant.live (subst (λ x. (view x.machine).closed ≡ false) c.deref_mut-held.ensures.value c.in-Ok.ensures.usable) in
+    let m = view was.machine in
+    let at : a.at ≡ length m.entries = subst (λ x. a.at ≡ length (view x.machine).entries) c.deref_mut-held.ensures.value c.in-Ok.ensures.place in
+    subst (λ v. a.at ≡ length (node_marks v)) c.self.view_is (omega (arith, at, none, length_marks m.entries m.moves was.stops m.hand))
+
+pub returns-in-Ok-clause-informed : goal.returns-in-Ok-clause-informed
+returns-in-Ok-clause-informed g c =
+    let view = g.M.Machine.view in
+    let old = view c.deref_mut-held.result.now.machine in
+    let words = went_to (g.M.Machine.advances c.handle.new.self) in
+    let is : last_word (view c.inform.new.self).moves ≡ last_word words =
+    ap (λ m. last_word (view m).moves) c.inform.ensures.same ∙ ap (λ m. last_word m.moves) c.in-Ok.ensures.ok ∙ last_more old.moves (last_word words) in
+    subst (HasBeenTold c.inform.new.d.informed) (sym is) (subst (λ x. HasBeenTold x (last_word words)) (sym (ap (λ d. d.informed) c.inform.ensures.informed)) (told_last c.args.drawer.now.informed words))
+
 -- an entry more, with the refills before it
 pub invariant_of-self : goal.invariant_of-self
 invariant_of-self g c =
@@ -33,5 +97,6 @@ invariant_of-self g c =
     let h = subst (λ x. Holds g.M.Machine.stands view g.F.Flash.chip x.machine x.start x.flash x.stops) (sym c.deref_mut-held.ensures.value) c.self.invariant in
     let e = c.in-Ok.ensures in
     let entry = entry_for old c.args.bearer c.args.number c.args.event.now c.in-Ok.answered.answer c.in-Ok.answered.jobs in
-    holds_on g.M.Machine.stands view g.F.Flash.chip held.machine c.handle.new.self held.start held.flash c.handle.new.flash held.stops h e.usable (ap (λ m. m.closed) e.ok) e.frame e.no_fault e.kept
-    (subst (λ m. AreAsked m.entries m.fills) (sym e.ok) (asked_entry old.entries entry old.fills refl h.asked))
+    subst (λ m. Holds g.M.Machine.stands view g.F.Flash.chip m held.start c.handle.new.flash held.stops) (sym c.inform.ensures.same)
+    (holds_on g.M.Machine.stands view g.F.Flash.chip held.machine c.handle.new.self held.start held.flash c.handle.new.flash held.stops h e.usable (ap (λ m. m.closed) e.ok) e.frame e.no_fault e.kept
+    (subst (λ m. AreAsked m.entries m.fills) (sym e.ok) (asked_entry old.entries entry old.fills refl h.asked)))

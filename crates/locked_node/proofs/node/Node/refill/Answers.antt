@@ -31,8 +31,8 @@ invariant_of-self g c =
     let old = view held.machine in
     let new = view c.refill.new.self in
     let h = subst (λ x. Holds g.M.Machine.stands view g.F.Flash.chip x.machine x.start x.flash x.stops) (sym c.deref_mut-held.ensures.value) c.self.invariant in
-    let job = subst (λ x. WasAsked (marks_of (view x.machine).entries x.stops (view x.machine).hand)) (sym c.deref_mut-held.ensures.value)
+    let job = subst (λ x. WasAsked (marks_of (view x.machine).entries (view x.machine).moves x.stops (view x.machine).hand)) (sym c.deref_mut-held.ensures.value)
     (subst (λ v. WasAsked (node_marks v)) (sym c.self.view_is) c.requires.asked) in
     let e = c.in-Ok.ensures in
     holds_on g.M.Machine.stands view g.F.Flash.chip held.machine c.refill.new.self held.start held.flash c.refill.new.flash held.stops h e.usable (ap (λ m. m.closed) e.ok) e.frame e.no_fault e.kept
-    (subst (λ es. AreAsked es new.fills) (sym (ap (λ m. m.entries) e.ok)) (asked_more old.entries held.stops old.hand (h.live e.usable) job old.fills new.fills h.asked))
+    (subst (λ es. AreAsked es new.fills) (sym (ap (λ m. m.entries) e.ok)) (asked_more old.entries old.moves held.stops old.hand (h.live e.usable) job old.fills new.fills h.asked))

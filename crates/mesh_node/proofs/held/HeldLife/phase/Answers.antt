@@ -20,6 +20,12 @@ returns-clause-numbers g c = c.one_phase_alone.ensures.numbers ∙ ap (λ l. l.n
 pub returns-clause-saved : goal.returns-clause-saved
 returns-clause-saved g c = c.in_ok-done.ensures.saved ∙ ap (λ l. (g.F.Flash.chip l.node.flash).setting.saved) c.self.view_is
 
+pub returns-clause-called : goal.returns-clause-called
+returns-clause-called g c = c.in_ok-done.ensures.called ∙ ap (λ l. (g.F.Flash.chip l.node.flash).setting.called) c.self.view_is
+
+pub returns-clause-moment : goal.returns-clause-moment
+returns-clause-moment g c = c.in_ok-done.ensures.moment ∙ ap (λ l. (g.F.Flash.chip l.node.flash).setting.moment) c.self.view_is
+
 pub returns-clause-place : goal.returns-clause-place
 returns-clause-place g c =
     let between = c.self.invariant.5 (ap (λ l. l.node.machine.closed) c.self.view_is ∙ c.requires.usable) in
