@@ -96,16 +96,20 @@ module _ (past : Past) (octets : List ℕ) (changes : ℕ) where
   began_ahead false None ahead fails = refl
   began_ahead false (Some a) ahead fails = ahead_more a changes (ahead refl)
 
--- a call that isn't the torn one
-pub began_within : (changes : ℕ) (failed : Bool) (arm : Option Armed) → (failed ≡ false → is_nearer arm changes ≡ true)
-    → is_failing (course_of failed arm) ≡ false → is_nearer (nearer_arm arm) (min (changes + 1) 4294967295) ≡ true
-began_within changes true arm within fails = absurd (true≢false fails)
-began_within changes false None within fails = refl
-began_within changes false (Some a) within fails = by_left (a.left == 0) refl fails
-  where
-    by_left : (b : Bool) → (a.left == 0) ≡ b → is_failing (cond b (Torn a.mask) Whole) ≡ false → nat_le (min (changes + 1) 4294967295 + (a.left - 1)) (a.changes + a.calls) ≡ true
-    by_left true e h = absurd (true≢false h)
-    by_left false e h = let some = eqb-false a.left 0 e in let so = leb-true _ _ (within refl) in le-leb _ _ (omega (arith, some, so))
+  -- what failed before, and this call if it fails, pays for a call behind the torn one
+  abbrev Within : Course → Option Armed → Type 0
+  Within course arm = is_nearer (nearer_arm arm) ((noted (call_of course) octets past).faults - (noted (call_of course) octets past).cycled) (min (changes + 1) 4294967295) ≡ true
+
+  pub began_within : (failed : Bool) (arm : Option Armed) → (failed ≡ false → past.faults ≡ past.cycled) → (failed ≡ true → (past.cycled < past.faults) × (is_reached_by arm changes ≡ true))
+      → is_nearer arm (past.faults - past.cycled) changes ≡ true → Within (course_of failed arm) arm
+  began_within true None whole cut within = refl
+  began_within true (Some a) whole cut within = let more = (cut refl).0 in let so = leb-true _ _ within in le-leb _ _ (omega (arith, more, so))
+  began_within false None whole cut within = refl
+  began_within false (Some a) whole cut within = by_left (a.left == 0) refl
+    where
+      by_left : (b : Bool) → (a.left == 0) ≡ b → Within (cond b (Torn a.mask) Whole) (Some a)
+      by_left true e = let none = whole refl in let so = leb-true _ _ within in le-leb _ _ (omega (arith, none, so))
+      by_left false e = let some = eqb-false a.left 0 e in let so = leb-true _ _ within in le-leb _ _ (omega (arith, some, so))
 
 -- the same at what the fields then are
 pub next_reached : (arm next : Option Armed) (changes later : ℕ) → next ≡ arm → later ≡ changes → is_reached_by arm changes ≡ true → is_reached_by next later ≡ true
@@ -114,5 +118,10 @@ next_reached arm next changes later same at h = subst (λ (x : Option Armed). is
 pub next_ahead : (arm next : Option Armed) (changes later : ℕ) → next ≡ arm → later ≡ changes → is_ahead arm changes ≡ true → is_ahead next later ≡ true
 next_ahead arm next changes later same at h = subst (λ (x : Option Armed). is_ahead x later ≡ true) (sym same) (subst (λ (n : ℕ). is_ahead arm n ≡ true) (sym at) h)
 
-pub next_within : (arm next : Option Armed) (changes later : ℕ) → next ≡ arm → later ≡ changes → is_nearer arm changes ≡ true → is_nearer next later ≡ true
-next_within arm next changes later same at h = subst (λ (x : Option Armed). is_nearer x later ≡ true) (sym same) (subst (λ (n : ℕ). is_nearer arm n ≡ true) (sym at) h)
+pub next_within : (arm next : Option Armed) (failed changes later : ℕ) → next ≡ arm → later ≡ changes → is_nearer arm failed changes ≡ true → is_nearer next failed later ≡ true
+next_within arm next failed changes later same at h = subst (λ (x : Option Armed). is_nearer x failed later ≡ true) (sym same) (subst (λ (n : ℕ). is_nearer arm failed n ≡ true) (sym at) h)
+
+-- one that failed more leaves more room
+pub within_more : (arm : Option Armed) (failed more changes : ℕ) → failed ≤ more → is_nearer arm failed changes ≡ true → is_nearer arm more changes ≡ true
+within_more None failed more changes le h = refl
+within_more (Some a) failed more changes le h = let so = leb-true _ _ h in le-leb _ _ (omega (arith, le, so))

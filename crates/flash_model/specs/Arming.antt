@@ -31,6 +31,10 @@ ProgramsAtMost n old new = new.octets ≤ old.octets + n
 abbrev pub ReadsAtMost : ℕ → Chip → Chip → Type 0
 ReadsAtMost n old new = new.reads ≤ old.reads + n
 
+-- it failed at most once between them: one call did, at most
+abbrev pub FailsOnce : Chip → Chip → Type 0
+FailsOnce old new = new.faults ≤ old.faults + 1
+
 -- it has failed since the last power cycle
 abbrev pub is_cut : Chip → Bool
 is_cut chip = nat_lt chip.setting.faults chip.faults
@@ -69,14 +73,24 @@ abbrev pub IsReached : Option Arm → ℕ → Type 0
 IsReached None changes = ⊥
 IsReached (Some arm) changes = (arm.changes + arm.calls < changes) ⊎ (changes ≡ 4294967295)
 
--- no more calls were begun since an arm than come before the torn one
-abbrev pub IsWithin : Option Arm → ℕ → Type 0
-IsWithin None changes = ⊤
-IsWithin (Some arm) changes = changes ≤ arm.changes + arm.calls
+-- No more calls were begun since an arm than come before the torn one, and one more for each that failed since. So where none failed the torn one
+-- wasn't begun, as long as the count isn't ffffffff; and where one did, it was the last that was begun.
+abbrev pub IsWithin : Option Arm → ℕ → ℕ → Type 0
+IsWithin None failed changes = ⊤
+IsWithin (Some arm) failed changes = changes ≤ arm.changes + arm.calls + failed
 
--- a steady flash that hasn't failed since the last power cycle hasn't begun the torn call
+-- how often it has failed since the last power cycle
+abbrev pub failed_since : Chip → ℕ
+failed_since chip = chip.faults - chip.setting.faults
+
+-- an order to tear a call is carried out by a steady flash: it has begun no calls behind the torn one but such that failed
 abbrev pub IsCarriedOut : Chip → Type 0
-IsCarriedOut chip = IsTrue chip.steady → chip.faults ≤ chip.setting.faults → IsWithin chip.setting.arm chip.changes
+IsCarriedOut chip = IsTrue chip.steady → IsWithin chip.setting.arm (failed_since chip) chip.changes
+
+-- the torn call of an arm was the last one that was begun, or the count had no room for it
+abbrev pub IsTornLast : Option Arm → ℕ → Type 0
+IsTornLast None changes = ⊥
+IsTornLast (Some arm) changes = changes ≡ min (arm.changes + arm.calls + 1) 4294967295
 
 -- a steady flash has failed since the last power cycle only by an arm
 abbrev pub IsExplained : Chip → Type 0

@@ -21,6 +21,8 @@ pub record Setting : Type 0 where
   pub moment : ℕ
   -- how many program and erase calls were counted then: 0 behind a power cycle
   pub called : ℕ
+  -- how many octets the program calls among them were given: 0 behind a power cycle
+  pub programmed : ℕ
   -- how often power was cycled till now
   pub cycles : ℕ
 
@@ -48,7 +50,7 @@ pub record Chip : Type 1 where
   pub erases : ℕ
   -- how many octets the program calls among them were given, at most ffffffff
   pub octets : ℕ
-  -- how many of them still come before the torn one
+  -- how many program and erase calls still come before the torn one
   pub left : ℕ
   -- read calls begun since the last power cycle, at most ffffffff
   pub reads : ℕ

@@ -31,10 +31,10 @@ abbrev pub is_reached_by : Option Armed → ℕ → Bool
 is_reached_by None changes = false
 is_reached_by (Some arm) changes = nat_lt (arm.changes + arm.calls) changes || changes == 4294967295
 
--- of the calls before the torn one so many are left at most
-abbrev pub is_nearer : Option Armed → ℕ → Bool
-is_nearer None changes = true
-is_nearer (Some arm) changes = nat_le (changes + arm.left) (arm.changes + arm.calls)
+-- of the calls before the torn one so many are left at most, but for one more for each call that failed
+abbrev pub is_nearer : Option Armed → ℕ → ℕ → Bool
+is_nearer None failed changes = true
+is_nearer (Some arm) failed changes = nat_le (changes + arm.left) (arm.changes + arm.calls + failed)
 
 -- the torn call comes after so many more
 abbrev pub is_ahead : Option Armed → ℕ → Bool

@@ -1,5 +1,5 @@
 -- A flash in memory as a chip, and why it keeps the laws of one.
-use Rattle.std.specs.Prelude.{◌≡◌, ◌⊎◌, ℕ, zero, suc, ◌<◌, List, [], ◌∷◌, length, drop, Bool, true, false, ◌||◌, ◌==◌, nat_lt, Option, Some, None, is_none, option_map, refl}
+use Rattle.std.specs.Prelude.{◌≡◌, ◌⊎◌, ℕ, zero, suc, ◌-◌, ◌<◌, List, [], ◌∷◌, length, drop, Bool, true, false, ◌||◌, ◌==◌, nat_lt, Option, Some, None, is_none, option_map, refl}
 use Rattle.std.proofs.Common.{inl, inr, sym, subst, arith, true≢false}
 use Rattle.std.proofs.lemmas.Bool.{eqb-true, leb-true, ltb-true}
 use Rattle.flash_model.specs.declared.armed.Armed.{Armed}
@@ -28,7 +28,7 @@ mem_chip past octets changes erases programmed reads arm = record {
   sure = is_none arm;
   faults = past.faults;
   steady = true;
-  setting = record { faults = past.cycled; arm = option_map arm_of arm; saved = past.saved; moment = past.moment; called = 0; cycles = past.cycles };
+  setting = record { faults = past.cycled; arm = option_map arm_of arm; saved = past.saved; moment = past.moment; called = 0; programmed = 0; cycles = past.cycles };
   changes = changes;
   erases = erases;
   octets = programmed;
@@ -77,11 +77,9 @@ pub explained_by : (past : Past) (changes erases programmed reads : ℕ) (arm : 
 explained_by past changes erases programmed reads arm octets false whole cut steady more = absurd (omega (arith, whole refl))
 explained_by past changes erases programmed reads arm octets true whole cut steady more = reached arm changes (cut refl).1
 
--- where it hasn't failed since the last power cycle, the torn call wasn't begun
-pub carried_by : (past : Past) (changes erases programmed reads : ℕ) (arm : Option Armed) (octets : List ℕ) (failed : Bool)
-    → (failed ≡ true → (past.cycled < past.faults) × (is_reached_by arm changes ≡ true))
-    → (failed ≡ false → is_nearer arm changes ≡ true)
+-- no calls were begun behind the torn one but such that failed
+pub carried_by : (past : Past) (changes erases programmed reads : ℕ) (arm : Option Armed) (octets : List ℕ)
+    → is_nearer arm (past.faults - past.cycled) changes ≡ true
     → IsCarriedOut (mem_chip past octets changes erases programmed reads arm)
-carried_by past changes erases programmed reads arm octets true cut within steady few = let fell = (cut refl).0 in absurd (omega (arith, fell, few))
-carried_by past changes erases programmed reads None octets false cut within steady few = tt
-carried_by past changes erases programmed reads (Some arm) octets false cut within steady few = omega (arith, leb-true _ _ (within refl))
+carried_by past changes erases programmed reads None octets within steady = tt
+carried_by past changes erases programmed reads (Some arm) octets within steady = omega (arith, leb-true _ _ within)

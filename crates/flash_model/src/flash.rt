@@ -5,7 +5,7 @@
 // stable: it reads the same until the next program or erase.
 // Durability: what a call that returned Ok wrote is there in every image from then on.
 // Counting: a flash counts its faults, and since the last power cycle its read calls, its program and erase calls, of these the erase calls, and the
-// octets that the program calls were given. An Ok leaves the count of faults, so no fault is swallowed.
+// octets that the program calls were given. An Ok leaves the count of faults, so no fault is swallowed; a call that fails raises it by one.
 // So a caller that writes a record with its gate still ff, and clears the gate in a call of its own, finds the record whole
 // or its gate not 00, wherever power failed.
 //
@@ -13,7 +13,7 @@
 ghost use Rattle.std.specs.Prelude.{◌≡◌, ℕ, ◌+◌, ◌*◌, ◌%◌, ◌<◌, ◌≤◌, List, length, min, false, slice_range, IsTrue, IsOk, OnOk, OnErr, None, Some};
 ghost use Rattle.flash_model.specs.Octets.{IsContent, programmed, erased};
 ghost use Rattle.flash_model.specs.Chip.{Chip, Elapses, IsCut, IsDone, IsFresh, Keeps, KeepsCount, Stays};
-ghost use Rattle.flash_model.specs.Arming.{Begins, Erases, IsCarriedOut, IsExplained, ObeysArm, ObeysCut, Programs};
+ghost use Rattle.flash_model.specs.Arming.{Begins, Erases, FailsOnce, IsCarriedOut, IsExplained, ObeysArm, ObeysCut, Programs};
 
 use thiserror::Error;
 
@@ -43,7 +43,7 @@ pub trait Flash {
     ///
     /// # Errors
     ///
-    /// `FlashFailed` where the chip failed in this call: the count of faults rose (`cause`). `buf` may hold anything then.
+    /// `FlashFailed` where the chip failed in this call: the count of faults rose by one (`cause`, `once`). `buf` may hold anything then.
     fn read(&mut self, at: u32, buf: &mut [u8]) -> Result<(), FlashFailed>
         requires within { at + length buf.old ≤ FLASH_OCTETS }
 
@@ -57,6 +57,7 @@ pub trait Flash {
         ensures unprogrammed { (chip self.new).octets ≡ (chip self.old).octets }
         ensures no_fault { OnOk result ((chip self.new).faults ≡ (chip self.old).faults) }
         ensures cause { OnErr result ((chip self.old).faults < (chip self.new).faults) }
+        ensures once { FailsOnce (chip self.old) (chip self.new) }
         ensures sure { IsTrue (chip self.old).sure → IsOk result }
         ensures frame { Keeps (chip self.old) (chip self.new) }
         ensures by_arm { IsTrue (chip self.old).steady → ObeysCut (chip self.old) (chip self.new) result };
@@ -66,8 +67,8 @@ pub trait Flash {
     ///
     /// # Errors
     ///
-    /// `FlashFailed` where the chip failed in this call: the count of faults rose (`cause`). Each bit of the range is old or new then, all
-    /// else as it was (`any_moment`).
+    /// `FlashFailed` where the chip failed in this call: the count of faults rose by one (`cause`, `once`). Each bit of the range is old or
+    /// new then, all else as it was (`any_moment`).
     fn program(&mut self, at: u32, bytes: &[u8]) -> Result<(), FlashFailed>
         requires some { 0 < length bytes.now }
         requires within { at + length bytes.now ≤ FLASH_OCTETS }
@@ -85,6 +86,7 @@ pub trait Flash {
         ensures octets { Programs (length bytes.now) (chip self.old) (chip self.new) }
         ensures no_fault { OnOk result ((chip self.new).faults ≡ (chip self.old).faults) }
         ensures cause { OnErr result ((chip self.old).faults < (chip self.new).faults) }
+        ensures once { FailsOnce (chip self.old) (chip self.new) }
         ensures sure { IsTrue (chip self.old).sure → IsOk result }
         ensures frame { Keeps (chip self.old) (chip self.new) }
         ensures by_arm { IsTrue (chip self.old).steady
@@ -94,8 +96,8 @@ pub trait Flash {
     ///
     /// # Errors
     ///
-    /// `FlashFailed` where the chip failed in this call: the count of faults rose (`cause`). Each bit of the sector is the old one or 1 then,
-    /// all else as it was (`any_moment`).
+    /// `FlashFailed` where the chip failed in this call: the count of faults rose by one (`cause`, `once`). Each bit of the sector is the old
+    /// one or 1 then, all else as it was (`any_moment`).
     fn erase(&mut self, sector: u32) -> Result<(), FlashFailed>
         requires sector { sector < SECTORS }
 
@@ -110,6 +112,7 @@ pub trait Flash {
         ensures unprogrammed { (chip self.new).octets ≡ (chip self.old).octets }
         ensures no_fault { OnOk result ((chip self.new).faults ≡ (chip self.old).faults) }
         ensures cause { OnErr result ((chip self.old).faults < (chip self.new).faults) }
+        ensures once { FailsOnce (chip self.old) (chip self.new) }
         ensures sure { IsTrue (chip self.old).sure → IsOk result }
         ensures frame { Keeps (chip self.old) (chip self.new) }
         ensures by_arm { IsTrue (chip self.old).steady
@@ -176,6 +179,7 @@ pub trait Bench: Flash + Send + Drop {
               saved = (Self.chip self.new).now;
               moment = (Self.chip self.new).moment;
               called = 0;
+              programmed = 0;
               cycles = (Self.chip self.old).setting.cycles + 1;
             } }
         ensures changes { (Self.chip self.new).changes ≡ 0 }
@@ -193,6 +197,7 @@ pub trait Bench: Flash + Send + Drop {
     // A steady flash has failed since the last power cycle only by an arm.
     ghost explained: { (b : Self) → IsExplained (Self.chip b) };
 
-    // Where a steady flash with an arm hasn't failed since the last power cycle, at most the calls that come before the torn one were begun since.
+    // A steady flash with an arm has counted at most the calls since that come before the torn one, and one more for each time that it failed since the
+    // last power cycle.
     ghost carried: { (b : Self) → IsCarriedOut (Self.chip b) };
 }

@@ -35,9 +35,9 @@
 //!
 //! Of every flash, honest or not:
 //!
-//! 6. Any call may fail, as often as it likes; the answer is then `FlashFailed`, and the count of faults rose in that call (`cause`). An Ok
-//!    leaves the count (`no_fault`), and it never falls (`frame`; `Keeps`). It has no top, so a word that stops at one isn't it: [`MemFlash`]
-//!    has it in what contracts alone see (`past`).
+//! 6. Any call may fail, as often as it likes; the answer is then `FlashFailed`, and the count of faults rose by one in that call (`cause`,
+//!    `once`). An Ok leaves the count (`no_fault`), and it never falls (`frame`; `Keeps`). It has no top, so a word that stops at one isn't it:
+//!    [`MemFlash`] has it in what contracts alone see (`past`).
 //! 7. The past stays: what a cut at an earlier moment might have left, it might still have left, whatever a call does (`frame`; `Remembers`).
 //! 8. Read calls are counted, and program and erase calls, whatever they answer; no call counts as another, and each count stops at ffffffff
 //!    (`reads`, `uncalled`, `begins`, `counted`). Counts of their own are how many of the program and erase calls erase (`erases`, `unerased`,

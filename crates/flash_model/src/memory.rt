@@ -1,5 +1,5 @@
 // A flash in memory. Each call is done at once, so its one image is what it holds; an arm tears a call in the middle.
-ghost use Rattle.std.specs.Prelude.{◌≡◌, ℕ, ◌+◌, ◌<◌, ◌≤◌, List, min, true, false, IfOk, IsTrue, replicate, refl};
+ghost use Rattle.std.specs.Prelude.{◌≡◌, ℕ, ◌+◌, ◌-◌, ◌<◌, ◌≤◌, List, min, true, false, IfOk, IsTrue, replicate, refl};
 ghost use Rattle.std.proofs.Common.{inl};
 ghost use Rattle.flash_model.specs.Octets.{IsContent};
 ghost use Rattle.flash_model.specs.Chip.{IsFresh};
@@ -32,7 +32,7 @@ pub struct MemFlash {
     ghost few: { changes ≤ 4294967295 },
     ghost fewer: { erases ≤ changes },
     ghost counted: { programmed ≤ 4294967295 },
-    ghost within: { failed ≡ false → is_nearer arm changes ≡ true },
+    ghost within: { is_nearer arm (past.faults - past.cycled) changes ≡ true },
 }
 
 impl MemFlash {
@@ -50,6 +50,7 @@ impl MemFlash {
               saved = replicate 65536 255;
               moment = (⟦<MemFlash as Flash>⟧.chip m).moment;
               called = 0;
+              programmed = 0;
               cycles = 0;
             }) }
         ensures changes { IfOk result (λ m. (⟦<MemFlash as Flash>⟧.chip m).changes ≡ 0) }
@@ -157,7 +158,7 @@ impl Flash for MemFlash {
 impl Bench for MemFlash {
     ghost explained = { λ m. explained_by m.past m.changes m.erases m.programmed m.reads m.arm m.octets.items m.failed m.whole m.cut };
 
-    ghost carried = { λ m. carried_by m.past m.changes m.erases m.programmed m.reads m.arm m.octets.items m.failed m.cut m.within };
+    ghost carried = { λ m. carried_by m.past m.changes m.erases m.programmed m.reads m.arm m.octets.items m.within };
 
     fn arm(&mut self, calls: u32, mask: u8) {
         self.arm = Some(Armed {

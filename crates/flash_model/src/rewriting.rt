@@ -1,7 +1,7 @@
 // Two calls in a row, over any flash: what a cut leaves at each moment of both.
 ghost use Rattle.std.specs.Prelude.{◌≡◌, ℕ, ◌<◌, ◌≤◌, length, IsTrue, IsOk, OnOk, OnErr};
 ghost use Rattle.flash_model.specs.Chip.{IsDone, Keeps, LeavesOnly};
-ghost use Rattle.flash_model.specs.Arming.{Begins, BeginsAtMost, Erases, ErasesAtMost, Programs, ProgramsAtMost};
+ghost use Rattle.flash_model.specs.Arming.{Begins, BeginsAtMost, Erases, ErasesAtMost, FailsOnce, Programs, ProgramsAtMost};
 ghost use Rattle.flash_model.specs.Rewrite.{rewritten, IsRewrite};
 
 use crate::flash::{Flash, FlashFailed, SECTOR_OCTETS, SECTORS};
@@ -27,6 +27,7 @@ pub fn rewrite<F: Flash>(flash: &mut F, sector: u32, bytes: &[u8]) -> Result<(),
     ensures reads { (F.chip flash.new).reads ≡ (F.chip flash.old).reads }
     ensures no_fault { OnOk result ((F.chip flash.new).faults ≡ (F.chip flash.old).faults) }
     ensures cause { OnErr result ((F.chip flash.old).faults < (F.chip flash.new).faults) }
+    ensures once { FailsOnce (F.chip flash.old) (F.chip flash.new) }
     ensures sure { IsTrue (F.chip flash.old).sure → IsOk result }
     ensures frame { Keeps (F.chip flash.old) (F.chip flash.new) }
 {

@@ -9,38 +9,41 @@ ghost use Rattle.flaw_flash.specs.Flaw.{flawed};
 use flash_model::{Bench, Flash, FlashFailed};
 use std::alloc::{AllocError, Global};
 
-/// The read calls that are to fail, and how many did.
+/// The read calls that are to fail, and how many of them were begun.
 #[derive(Drop)]
 struct Flaws {
     failing: Vec<u32>,
     calls: u32,
-    count: usize,
-    ghost few: { count ≤ length failing.items },
+    begun: usize,
+    ghost few: { begun ≤ length failing.items },
 }
 
 impl Flaws {
     /// Counts a read call. Returns whether it is to fail.
     fn is_next(&mut self) -> bool
-        ensures none { result ≡ false → self.new.count ≡ self.old.count }
-        ensures one { result ≡ true → self.new.count ≡ self.old.count + 1 }
+        ensures none { result ≡ false → self.new.begun ≡ self.old.begun }
+        ensures one { result ≡ true → self.new.begun ≡ self.old.begun + 1 }
     {
         self.calls = self.calls.saturating_add(1);
-        if self.count < self.failing.len() && self.failing[self.count] == self.calls {
-            self.count += 1;
+        if self.begun < self.failing.len() && self.failing[self.begun] == self.calls {
+            self.begun += 1;
             return true;
         }
         false
     }
 }
 
-/// A flash whose reads fail at listed calls besides: such a call raises the count of faults, and nothing is cut. It is as honest as the flash
-/// below, and it isn't steady.
+/// A flash whose reads fail at listed calls besides: such a call raises the count of faults by one, and nothing is cut. It is as honest as the
+/// flash below, and it isn't steady.
 #[derive(Drop)]
 pub struct FlawFlash<F: Flash + Drop> {
     flash: F,
     flaws: Flaws,
+    /// How many reads failed that the flash below had done.
+    count: usize,
     cycled: usize,
-    ghost earlier: { cycled ≤ flaws.count },
+    ghost few: { count ≤ flaws.begun },
+    ghost earlier: { cycled ≤ count },
 }
 
 impl<F: Flash + Drop> FlawFlash<F> {
@@ -58,18 +61,19 @@ impl<F: Flash + Drop> FlawFlash<F> {
         let flaws = Flaws {
             failing,
             calls: 0,
-            count: 0,
+            begun: 0,
         };
         Ok(FlawFlash {
             flash,
             flaws,
+            count: 0,
             cycled: 0,
         })
     }
 }
 
 impl<F: Flash + Drop> Flash for FlawFlash<F> {
-    ghost chip = { λ f. flawed (F.chip f.flash) f.flaws.count f.cycled };
+    ghost chip = { λ f. flawed (F.chip f.flash) f.count f.cycled };
 
     ghost reads_image = { λ f honest. F.reads_image f.flash honest };
 
@@ -87,8 +91,12 @@ impl<F: Flash + Drop> Flash for FlawFlash<F> {
 
     fn read(&mut self, at: u32, buf: &mut [u8]) -> Result<(), FlashFailed> {
         let is_flaw = self.flaws.is_next();
-        let done = self.flash.read(at, buf);
-        if is_flaw { Err(FlashFailed) } else { done }
+        self.flash.read(at, buf)?;
+        if is_flaw {
+            self.count += 1;
+            return Err(FlashFailed);
+        }
+        Ok(())
     }
 
     fn program(&mut self, at: u32, bytes: &[u8]) -> Result<(), FlashFailed> {
@@ -111,7 +119,7 @@ impl<B: Bench> Bench for FlawFlash<B> {
 
     fn power_cycle(&mut self) {
         self.flash.power_cycle();
-        self.cycled = self.flaws.count;
+        self.cycled = self.count;
     }
 
     fn changes(&self) -> u32 {

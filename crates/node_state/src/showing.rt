@@ -2,6 +2,7 @@
 #![tactic(auto)]
 
 ghost use Rattle.std.specs.Prelude.{◌≡◌, IsTrue, IfOk, IfErr, OnOk};
+ghost use Rattle.flash_model.specs.Arming.{FailsOnce};
 ghost use Rattle.flash_model.specs.Chip.{Keeps, Stays};
 ghost use Rattle.node_state.specs.Shows.{IsShowCause, Shows, mount_fault};
 
@@ -48,6 +49,7 @@ pub fn show<F: Flash>(alloc: Global, flash: &mut F) -> Result<LineText, ShowFaul
     ensures unerased { (F.chip flash.new).erases ≡ (F.chip flash.old).erases }
     ensures unprogrammed { (F.chip flash.new).octets ≡ (F.chip flash.old).octets }
     ensures no_fault { OnOk result ((F.chip flash.new).faults ≡ (F.chip flash.old).faults) }
+    ensures once { FailsOnce (F.chip flash.old) (F.chip flash.new) }
     ensures frame { Keeps (F.chip flash.old) (F.chip flash.new) }
 {
     let persist = match read_image(flash) {

@@ -7,7 +7,7 @@ use Rattle.std.proofs.lemmas.List.Sums.{fold_more}
 use Rattle.flash_model.specs.Arming.{Begins, BeginsAtMost, Erases, ErasesAtMost, Programs, ProgramsAtMost}
 use Rattle.flash_model.specs.Chip.{CallCount, Chip, LeavesOnly}
 use Rattle.flash_model.proofs.Leaves.{IsOnlyNow, leaves_join, leaves_none, leaves_weaker}
-use Rattle.flash_model.proofs.Runs.{begins_more, begins_none, programs_more, programs_none}
+use Rattle.flash_model.proofs.Runs.{begins_more, begins_none, erases_more, erases_none, programs_more, programs_none}
 use Rattle.record_types.specs.declared.records.StoreRecord.{StoreRecord}
 use Rattle.store_definitions.specs.Config.{Config, changed, config_of}
 use Rattle.store_definitions.specs.Wear.{RECORD_OCTETS}
@@ -15,7 +15,7 @@ use Rattle.node_records.specs.declared.persist.Persist.{Persist}
 use Rattle.node_records.specs.Meaning.{IsMeaningOf}
 use Rattle.node_snapshot.specs.Snapshot.{snapshot_of}
 use Rattle.node_store.specs.Calls.{calls_of, compaction, only_slots, used_with_room}
-use Rattle.node_store.specs.Several.{MayPut}
+use Rattle.node_store.specs.Several.{CostsEach, CostsSome, IsNext, IsSumOf, MayPut, and_then, none_put, one_more}
 use Rattle.node_store.specs.Tie.{HasMarkFrom, Holds, IsFront, IsHeld, IsNotBelow, IsPut, IsStoreOf}
 use Rattle.node_store.specs.View.{StoreView}
 use Rattle.node_store.proofs.Follows.{mark_before, mark_from}
@@ -195,6 +195,43 @@ most_octets n i start new is so = omega (arith, is, so)
 pub none_erased : (start new : Chip) → Erases 0 start new → ErasesAtMost 0 start new
 none_erased start new so = omega (arith, so)
 
+-- What each record costs, also where there isn't room for all.
+
+-- before the first
+pub each_none : (chip : Chip) (store : StoreView) → chip.changes ≤ 4294967295 → chip.erases ≤ chip.changes → chip.octets ≤ 4294967295 → CostsEach [] chip chip store store
+each_none chip store few fewer counted = record { n = only_slots 0; sum = none_put; calls = begins_none chip few; erases = erases_none chip fewer few; octets = programs_none chip counted }
+
+-- one more
+module _ (items : List StoreRecord) (i : ℕ) (d : StoreRecord) (less : i < length items) (start mid new : Chip) (first store : StoreView) (so : CostsEach (take i items) start mid first store) where
+  pub each_more : (after : StoreView) → IsNext store (get_or items i d) after → Begins (calls_of store).calls mid new → Erases (calls_of store).erases mid new → Programs (calls_of store).octets mid new
+      → CostsEach (take (i + 1) items) start new first after
+  each_more after next calls erases octets = record {
+    n = and_then so.n (calls_of store);
+    sum = subst (λ (l : List StoreRecord). IsSumOf first l after (and_then so.n (calls_of store))) (sym (take_more items i d less)) (one_more so.sum next);
+    calls = begins_more so.n.calls (calls_of store).calls (and_then so.n (calls_of store)).calls start mid new refl so.calls calls;
+    erases = erases_more so.n.erases (calls_of store).erases (and_then so.n (calls_of store)).erases start mid new refl so.erases erases;
+    octets = programs_more so.n.octets (calls_of store).octets (and_then so.n (calls_of store)).octets start mid new refl so.octets octets;
+  }
+
+-- one that failed
+module _ (items : List StoreRecord) (i : ℕ) (less : i < length items) (start mid new : Chip) (first store last : StoreView) (so : CostsEach (take i items) start mid first store) where
+  pub each_some : last.persist ≡ store.persist → BeginsAtMost (calls_of store).calls mid new → ErasesAtMost (calls_of store).erases mid new → ProgramsAtMost (calls_of store).octets mid new → CostsSome items start new first last
+  each_some says calls erases octets =
+      let called = so.calls in
+      let erased = so.erases in
+      let given = so.octets in
+      record {
+        few = i;
+        below = less;
+        left = store;
+        says = says;
+        n = so.n;
+        sum = so.sum;
+        most_calls = omega (arith, called, calls);
+        most_erases = omega (arith, erased, erases);
+        most_octets = omega (arith, given, octets);
+      }
+
 -- at the end all are put
 module _ (items : List StoreRecord) (i : ℕ) (most : length items ≤ i) where
   pub config_all : (c start : Config) → c ≡ fold changed start (take i items) → c ≡ fold changed start items
@@ -205,3 +242,6 @@ module _ (items : List StoreRecord) (i : ℕ) (most : length items ≤ i) where
 
   pub tie_all : (records : List StoreRecord) (chip : Chip) (store : StoreView) → IsStoreOf chip store (records ++ take i items) → IsStoreOf chip store (records ++ items)
   tie_all records chip store = subst (λ (l : List StoreRecord). IsStoreOf chip store (records ++ l)) (take_all i items most)
+
+  pub each_all : (start new : Chip) (first store : StoreView) → CostsEach (take i items) start new first store → CostsEach items start new first store
+  each_all start new first store = subst (λ (l : List StoreRecord). CostsEach l start new first store) (take_all i items most)

@@ -1,7 +1,7 @@
 -- What the calls do that write to the flash of a store: what they put, what they answer where nothing changes, what a fault leaves, what a
 -- power cut leaves, and what they cost. Each call says which records it puts, and when it refuses them.
 use Rattle.std.specs.Prelude.{◌≡◌, ℕ, ◌<◌, List, ◌++◌, fold, true, false, IsTrue, IsOk, OnOk, OnErr, Result, Err}
-use Rattle.flash_model.specs.Arming.{Begins, BeginsAtMost, Erases, ErasesAtMost, Programs, ProgramsAtMost}
+use Rattle.flash_model.specs.Arming.{Begins, BeginsAtMost, Erases, ErasesAtMost, FailsOnce, Programs, ProgramsAtMost}
 use Rattle.flash_model.specs.Chip.{CallCount, Chip, Keeps, LeavesOnly}
 use Rattle.record_types.specs.declared.records.StoreRecord.{StoreRecord}
 use Rattle.store_definitions.specs.Config.{changed}
@@ -68,4 +68,6 @@ module _ {T E : Type 0} where
     pub reads : new.reads ≡ old.reads
     -- Ok leaves the count of faults
     pub no_fault : OnOk result (new.faults ≡ old.faults)
+    -- and an error raises it by one at most: once a call of the flash has failed, none is made
+    pub once : FailsOnce old new
     pub frame : Keeps old new

@@ -1,5 +1,6 @@
 // A flash whose octets come from outside: whether a node can be started from it.
 ghost use Rattle.std.specs.Prelude.{◌≡◌, ◌↔◌, ◌⊎◌, ◌+◌, ◌≤◌, ◌≢◌, ◌^◌, [], All, true, List, IsTrue, IfOk, IfErr, OnOk, is_some, nat_le};
+ghost use Rattle.flash_model.specs.Arming.{FailsOnce};
 ghost use Rattle.flash_model.specs.Chip.{Keeps, Stays};
 ghost use Rattle.mesh_base.specs.declared.keys.AppKeyRow.{AppKeyRow};
 ghost use Rattle.node_limits.specs.declared.TheConstants as limits;
@@ -131,6 +132,7 @@ fn read_counting<F: Flash>(flash: &mut F) -> Result<Persist, StoreFault>
     ensures unprogrammed { (F.chip flash.new).octets ≡ (F.chip flash.old).octets }
     ensures said { IfOk result IsSaid }
     ensures no_fault { OnOk result ((F.chip flash.new).faults ≡ (F.chip flash.old).faults) }
+    ensures once { FailsOnce (F.chip flash.old) (F.chip flash.new) }
     ensures refused { IfErr result (λ e. IsNotFlash e → (F.chip flash.new).faults ≡ (F.chip flash.old).faults) }
     ensures sure { IsTrue (F.chip flash.old).sure → IfErr result IsNotFlash }
     ensures frame { Keeps (F.chip flash.old) (F.chip flash.new) }
@@ -158,6 +160,7 @@ pub fn read_image<F: Flash>(flash: &mut F) -> Result<Persist, ImageFault>
     // of every flash, honest or not
     ensures said { IfOk result IsSaid }
     ensures no_fault { OnOk result ((F.chip flash.new).faults ≡ (F.chip flash.old).faults) }
+    ensures once { FailsOnce (F.chip flash.old) (F.chip flash.new) }
     ensures sure { IsTrue (F.chip flash.old).sure → IfErr result (λ e. ¬ IsRefusedByFlash e) }
     ensures frame { Keeps (F.chip flash.old) (F.chip flash.new) }
 {

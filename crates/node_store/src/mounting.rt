@@ -1,6 +1,6 @@
 // A store is found again on its flash.
 ghost use Rattle.std.specs.Prelude.{◌≡◌, ◌↔◌, ◌⊎◌, ℕ, ◌+◌, ◌<◌, ◌≤◌, List, Err, false, IsTrue, IsOk, IfOk, IfErr, OnOk, OnErr};
-ghost use Rattle.flash_model.specs.Arming.{Begins, BeginsAtMost, Erases, ErasesAtMost, Programs, ProgramsAtMost, ReadsAtMost};
+ghost use Rattle.flash_model.specs.Arming.{Begins, BeginsAtMost, Erases, ErasesAtMost, FailsOnce, Programs, ProgramsAtMost, ReadsAtMost};
 ghost use Rattle.flash_model.specs.Chip.{IsFresh, Keeps, LeavesOnly, Stays, count_of};
 ghost use Rattle.node_limits.specs.declared.TheConstants.{BANK_RECORDS};
 ghost use Rattle.record_types.specs.declared.records.StoreRecord.{StoreRecord};
@@ -140,6 +140,7 @@ impl Store {
         ensures usable { IfOk result (λ s. s.journal.closed ≡ false) }
         ensures format { IfOk result (λ s. s.journal.version ≡ 2) }
         ensures no_fault { OnOk result ((F.chip flash.new).faults ≡ (F.chip flash.old).faults) }
+        ensures once { FailsOnce (F.chip flash.old) (F.chip flash.new) }
         ensures refused { IfErr result
             (λ e. IsNotFlash e
             → ((F.chip flash.new).faults ≡ (F.chip flash.old).faults)
@@ -184,6 +185,7 @@ fn migrated<F: Flash>(
     ensures reads { (F.chip flash.new).reads ≡ (F.chip flash.old).reads }
     ensures no_fault { OnOk result ((F.chip flash.new).faults ≡ (F.chip flash.old).faults) }
     ensures cause { OnErr result ((F.chip flash.old).faults < (F.chip flash.new).faults) }
+    ensures once { FailsOnce (F.chip flash.old) (F.chip flash.new) }
     ensures sure { IsTrue (F.chip flash.old).sure → IsOk result }
     ensures frame { Keeps (F.chip flash.old) (F.chip flash.new) }
 {
@@ -210,6 +212,7 @@ pub(crate) fn read_records<F: Flash>(
     ensures unprogrammed { (F.chip flash.new).octets ≡ (F.chip flash.old).octets }
     ensures most_reads { ReadsAtMost BANK_RECORDS (F.chip flash.old) (F.chip flash.new) }
     ensures no_fault { OnOk result ((F.chip flash.new).faults ≡ (F.chip flash.old).faults) }
+    ensures once { FailsOnce (F.chip flash.old) (F.chip flash.new) }
     ensures refused { IfErr result (λ e. IsNotFlash e → (F.chip flash.new).faults ≡ (F.chip flash.old).faults) }
     ensures sure { IsTrue (F.chip flash.old).sure → IfErr result IsNotFlash }
     ensures frame { Keeps (F.chip flash.old) (F.chip flash.new) }
@@ -242,6 +245,7 @@ fn read_slot<F: Flash>(
     ensures unprogrammed { (F.chip flash.new).octets ≡ (F.chip flash.old).octets }
     ensures most_reads { ReadsAtMost 1 (F.chip flash.old) (F.chip flash.new) }
     ensures no_fault { OnOk result ((F.chip flash.new).faults ≡ (F.chip flash.old).faults) }
+    ensures once { FailsOnce (F.chip flash.old) (F.chip flash.new) }
     ensures refused { IfErr result (λ e. IsNotFlash e → (F.chip flash.new).faults ≡ (F.chip flash.old).faults) }
     ensures sure { IsTrue (F.chip flash.old).sure → IfErr result IsNotFlash }
     ensures frame { Keeps (F.chip flash.old) (F.chip flash.new) }

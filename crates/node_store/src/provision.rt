@@ -1,5 +1,6 @@
 // A node is provisioned: its first records are written onto an erased flash.
 ghost use Rattle.std.specs.Prelude.{◌≡◌, List, false, IsTrue, IfOk, IfErr, OnOk, ℕ, ◌*◌, ◌^◌, ◌<◌, All, map, slice_index};
+ghost use Rattle.flash_model.specs.Arming.{FailsOnce};
 ghost use Rattle.flash_model.specs.Chip.{IsFresh, Keeps, LeavesOnly, Stays, count_of};
 ghost use Rattle.node_records.specs.Meaning.{IsMeaningOf, IsSaid};
 ghost use Rattle.store_definitions.specs.Ranges.{IsInRange};
@@ -89,6 +90,7 @@ impl Store {
 
         // of every flash, honest or not
         ensures no_fault { OnOk result ((F.chip flash.new).faults ≡ (F.chip flash.old).faults) }
+        ensures once { FailsOnce (F.chip flash.old) (F.chip flash.new) }
         ensures sure { IsTrue (F.chip flash.old).sure → IfErr result IsNotErased }
         ensures frame { Keeps (F.chip flash.old) (F.chip flash.new) }
     {
@@ -124,6 +126,7 @@ impl Store {
 
         // of every flash, honest or not
         ensures no_fault { OnOk result ((F.chip flash.new).faults ≡ (F.chip flash.old).faults) }
+        ensures once { FailsOnce (F.chip flash.old) (F.chip flash.new) }
         ensures sure { IsTrue (F.chip flash.old).sure → IfErr result IsNotErased }
         ensures frame { Keeps (F.chip flash.old) (F.chip flash.new) }
     {

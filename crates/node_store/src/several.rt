@@ -1,9 +1,9 @@
 // Several records are put, one after another.
-ghost use Rattle.std.specs.Prelude.{◌≡◌, ◌+◌, ◌*◌, ◌≤◌, length, true, false, Err, OnOk};
+ghost use Rattle.std.specs.Prelude.{◌≡◌, ◌+◌, ◌*◌, ◌≤◌, length, true, false, Err, OnErr, OnOk};
 ghost use Rattle.flash_model.specs.Chip.{count_of};
 ghost use Rattle.flash_model.specs.Arming.{BeginsAtMost};
 ghost use Rattle.node_store.specs.Calls.{only_slots};
-ghost use Rattle.node_store.specs.Several.{MayPut};
+ghost use Rattle.node_store.specs.Several.{CostsEach, CostsSome, MayPut};
 ghost use Rattle.node_store.specs.Tie.{IsFront};
 ghost use Rattle.node_store.specs.Writing.{CostsCalls, CutLeaves, FailsAtFlash, LeavesFlash, OnlyAnswers, Puts};
 ghost use Rattle.store_definitions.specs.Wear.{CostsAndUses, CostsAtMost};
@@ -31,6 +31,10 @@ impl Store {
             → FailsAtFlash result PutFault.Flash (F.chip flash.old) (F.chip flash.new) self.new }
         ensures puts { OnOk result (Puts items.now (F.chip flash.old) (F.chip flash.new) self.old self.new) }
         ensures cut { CutLeaves (λ records. IsFront records items.now) (F.chip flash.old) (F.chip flash.new) self.old }
+        // each record costs what a put of it does, where those before it were put
+        ensures each { OnOk result (CostsEach items.now (F.chip flash.old) (F.chip flash.new) self.old self.new) }
+        ensures some { self.old.journal.closed ≡ false
+            → OnErr result (CostsSome items.now (F.chip flash.old) (F.chip flash.new) self.old self.new) }
         // two program calls for each record where there is room for all, and never more than a compaction takes for each
         ensures costs { self.old.journal.used + length items.now ≤ 1023
             → CostsCalls (only_slots (length items.now)) result (F.chip flash.old) (F.chip flash.new) }

@@ -1,5 +1,6 @@
 -- A flash on which a node was provisioned, and one that failed before that.
 use Rattle.std.specs.Prelude.{◌≡◌, ℕ, ◌+◌, ◌<◌, ◌≤◌, Bool, true, false, List, None}
+use Rattle.flash_model.specs.Arming.{FailsOnce}
 use Rattle.flash_model.specs.Chip.{Chip, Remembers, count_of}
 use Rattle.machine_contract.specs.Opening.{EachRecovered, IsNodeFlash}
 use Rattle.node_store.specs.Tie.{IsMade, IsNode}
@@ -31,20 +32,21 @@ pub record WasProvisioned (format : ℕ) (records : List StoreRecord) (old new :
   pub in_format : IsInFormat format new
   pub faults : new.faults ≡ old.faults
   pub setting : new.setting
-      ≡ record { faults = old.faults; arm = None; saved = found; moment = new.setting.moment; called = 0; cycles = old.setting.cycles + 1 }
+      ≡ record { faults = old.faults; arm = None; saved = found; moment = new.setting.moment; called = 0; programmed = 0; cycles = old.setting.cycles + 1 }
   pub steady : new.steady ≡ old.steady
   pub calls : count_of new ≡ record { calls = 8; erases = 0; octets = 128 }
   pub past : Remembers old new
 
--- The flash failed before a node was provisioned on it, and so before any life: it failed since power was given, and was given no order to
--- tear a call. Where it was erased, an image recovers nothing, or what the node is provisioned with; else it is as it was. At most 8 program calls,
--- of at most 128 octets together, and no erase call, were begun since then, and none where it wasn't erased.
+-- The flash failed before a node was provisioned on it, and so before any life: it failed since power was given, once, as none of its calls was
+-- made behind that, and was given no order to tear a call. Where it was erased, an image recovers nothing, or what the node is provisioned with; else
+-- it is as it was. At most 8 program calls, of at most 128 octets together, and no erase call, were begun since then, and none where it wasn't erased.
 pub record FailsEarly (records : List StoreRecord) (old new : Chip) : Type 0 where
   pub failed : old.faults < new.faults
+  pub once : FailsOnce old new
   pub found : List ℕ
   pub was : old.images found
   pub setting : new.setting
-      ≡ record { faults = old.faults; arm = None; saved = found; moment = new.setting.moment; called = 0; cycles = old.setting.cycles + 1 }
+      ≡ record { faults = old.faults; arm = None; saved = found; moment = new.setting.moment; called = 0; programmed = 0; cycles = old.setting.cycles + 1 }
   pub calls : new.changes ≤ 8
   pub unerased : new.erases ≡ 0
   pub most_octets : new.octets ≤ 128

@@ -2,6 +2,7 @@
 #![tactic(auto)]
 
 ghost use Rattle.std.specs.Prelude.{◌≡◌, IsTrue, IfErr, OnOk};
+ghost use Rattle.flash_model.specs.Arming.{FailsOnce};
 ghost use Rattle.flash_model.specs.Chip.{IsFresh, Keeps, LeavesOnly, Stays, count_of};
 ghost use Rattle.node_store.specs.Calls.{only_slots};
 ghost use Rattle.node_store.specs.Provisioning.{IsProvision, provisioning};
@@ -34,6 +35,7 @@ fn provision_now<F: Flash>(flash: &mut F, p: &Provision) -> Result<(), FormatFau
     // two program calls of 32 octets together for each record and for the header, and never more
     ensures costs { CostsCalls (only_slots 4) result (F.chip flash.old) (F.chip flash.new) }
     ensures no_fault { OnOk result ((F.chip flash.new).faults ≡ (F.chip flash.old).faults) }
+    ensures once { FailsOnce (F.chip flash.old) (F.chip flash.new) }
     ensures sure { IsTrue (F.chip flash.old).sure → IfErr result IsNotErased }
     ensures frame { Keeps (F.chip flash.old) (F.chip flash.new) }
 {
@@ -62,6 +64,7 @@ pub fn provision<F: Flash>(flash: &mut F, old: bool, p: &Provision) -> Result<()
     // as many calls in either format
     ensures costs { CostsCalls (only_slots 4) result (F.chip flash.old) (F.chip flash.new) }
     ensures no_fault { OnOk result ((F.chip flash.new).faults ≡ (F.chip flash.old).faults) }
+    ensures once { FailsOnce (F.chip flash.old) (F.chip flash.new) }
     ensures sure { IsTrue (F.chip flash.old).sure → IfErr result IsNotErased }
     ensures frame { Keeps (F.chip flash.old) (F.chip flash.new) }
 {

@@ -1,7 +1,7 @@
 // A compaction: the bank that doesn't count is erased, filled, and given a header with the next generation.
 ghost use Rattle.std.specs.Prelude.{◌≡◌, ℕ, ◌+◌, ◌-◌, ◌*◌, ◌%◌, ◌<◌, ◌≤◌, length, true, false, Err, Some, IsTrue, IsOk, OnOk, OnErr};
 ghost use Rattle.flash_model.specs.Octets.{IsContent};
-ghost use Rattle.flash_model.specs.Arming.{Begins, BeginsAtMost, Erases, ErasesAtMost, Programs, ProgramsAtMost};
+ghost use Rattle.flash_model.specs.Arming.{Begins, BeginsAtMost, Erases, ErasesAtMost, FailsOnce, Programs, ProgramsAtMost};
 ghost use Rattle.flash_model.specs.Chip.{IsFresh, Keeps, LeavesOnly};
 ghost use Rattle.slot_definitions.specs.Slots.{recovered};
 ghost use Rattle.slot_journal.specs.Tie.{IsJournalOf, IsCompacted};
@@ -95,6 +95,7 @@ impl Journal {
         // of every flash, honest or not
         ensures reads { (F.chip flash.new).reads ≡ (F.chip flash.old).reads }
         ensures no_fault { OnOk result ((F.chip flash.new).faults ≡ (F.chip flash.old).faults) }
+        ensures once { FailsOnce (F.chip flash.old) (F.chip flash.new) }
         ensures sure { IsTrue (F.chip flash.old).sure → self.old.closed ≡ false → IsOk result }
         ensures frame { Keeps (F.chip flash.old) (F.chip flash.new) }
     {
@@ -133,6 +134,7 @@ fn erase_bank<F: Flash>(flash: &mut F, bank: u32) -> Result<(), FlashFailed>
     ensures reads { (F.chip flash.new).reads ≡ (F.chip flash.old).reads }
     ensures no_fault { OnOk result ((F.chip flash.new).faults ≡ (F.chip flash.old).faults) }
     ensures cause { OnErr result ((F.chip flash.old).faults < (F.chip flash.new).faults) }
+    ensures once { FailsOnce (F.chip flash.old) (F.chip flash.new) }
     ensures sure { IsTrue (F.chip flash.old).sure → IsOk result }
     ensures frame { Keeps (F.chip flash.old) (F.chip flash.new) }
 {

@@ -1,6 +1,6 @@
 // Items are written into a blank bank, all before its header.
 ghost use Rattle.std.specs.Prelude.{◌≡◌, ℕ, ◌*◌, ◌<◌, ◌≤◌, List, length, IsTrue, IsOk, IfOk, OnOk, OnErr};
-ghost use Rattle.flash_model.specs.Arming.{Begins, BeginsAtMost, Programs, ProgramsAtMost};
+ghost use Rattle.flash_model.specs.Arming.{Begins, BeginsAtMost, FailsOnce, Programs, ProgramsAtMost};
 ghost use Rattle.flash_model.specs.Chip.{Keeps, LeavesOnly};
 ghost use Rattle.slot_journal.specs.Banks.{IsBankBare, IsBankFilled};
 
@@ -30,6 +30,7 @@ pub fn fill_bank<F: Flash, S: Items>(
     ensures reads { (F.chip flash.new).reads ≡ (F.chip flash.old).reads }
     ensures no_fault { OnOk result ((F.chip flash.new).faults ≡ (F.chip flash.old).faults) }
     ensures cause { OnErr result ((F.chip flash.old).faults < (F.chip flash.new).faults) }
+    ensures once { FailsOnce (F.chip flash.old) (F.chip flash.new) }
     ensures sure { IsTrue (F.chip flash.old).sure → IsOk result }
     ensures frame { Keeps (F.chip flash.old) (F.chip flash.new) }
 {

@@ -1,6 +1,6 @@
 // A blank flash becomes a journal: its items first, then the header of bank 0, so that nothing counts before all is there.
 ghost use Rattle.std.specs.Prelude.{◌≡◌, ◌⊎◌, ℕ, ◌+◌, ◌*◌, ◌<◌, ◌≤◌, List, length, false, Some, IsTrue, IsOk, IfOk, IfErr, OnOk, OnErr};
-ghost use Rattle.flash_model.specs.Arming.{Begins, BeginsAtMost, Programs, ProgramsAtMost};
+ghost use Rattle.flash_model.specs.Arming.{Begins, BeginsAtMost, FailsOnce, Programs, ProgramsAtMost};
 ghost use Rattle.flash_model.specs.Chip.{IsFresh, Keeps, LeavesOnly, Stays, count_of};
 ghost use Rattle.slot_definitions.specs.Slots.{recovered};
 ghost use Rattle.slot_journal.specs.Tie.{IsJournalOf};
@@ -70,6 +70,7 @@ impl Journal {
 
         // of every flash, honest or not
         ensures no_fault { OnOk result ((F.chip flash.new).faults ≡ (F.chip flash.old).faults) }
+        ensures once { FailsOnce (F.chip flash.old) (F.chip flash.new) }
         ensures sure { IsTrue (F.chip flash.old).sure → IfErr result IsNotErased }
         ensures frame { Keeps (F.chip flash.old) (F.chip flash.new) }
     {
@@ -97,6 +98,7 @@ fn first_written<F: Flash>(flash: &mut F) -> Result<Option<u32>, FlashFailed>
     ensures unprogrammed { (F.chip flash.new).octets ≡ (F.chip flash.old).octets }
     ensures no_fault { OnOk result ((F.chip flash.new).faults ≡ (F.chip flash.old).faults) }
     ensures cause { OnErr result ((F.chip flash.old).faults < (F.chip flash.new).faults) }
+    ensures once { FailsOnce (F.chip flash.old) (F.chip flash.new) }
     ensures sure { IsTrue (F.chip flash.old).sure → IsOk result }
     ensures frame { Keeps (F.chip flash.old) (F.chip flash.new) }
 {

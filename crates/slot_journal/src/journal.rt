@@ -1,6 +1,6 @@
 // The journal: which bank counts, how many of its slots are used, and whether a write failed.
 ghost use Rattle.std.specs.Prelude.{◌≡◌, ◌⊎◌, ℕ, ◌+◌, ◌*◌, ◌<◌, ◌≤◌, true, false, Err, IsTrue, IsOk, IfOk, OnOk, OnErr};
-ghost use Rattle.flash_model.specs.Arming.{Begins, BeginsAtMost, Programs, ProgramsAtMost, ReadsAtMost};
+ghost use Rattle.flash_model.specs.Arming.{Begins, BeginsAtMost, FailsOnce, Programs, ProgramsAtMost, ReadsAtMost};
 ghost use Rattle.flash_model.specs.Chip.{Keeps, LeavesOnly, Stays};
 ghost use Rattle.slot_definitions.specs.Slots.{gated, text_at, recovered};
 ghost use Rattle.slot_journal.specs.Tie.{IsJournalOf, IsAppended, with_last};
@@ -105,6 +105,7 @@ impl Journal {
         // of every flash, honest or not
         ensures no_fault { OnOk result ((F.chip flash.new).faults ≡ (F.chip flash.old).faults) }
         ensures cause { OnErr result ((F.chip flash.old).faults < (F.chip flash.new).faults) }
+        ensures once { FailsOnce (F.chip flash.old) (F.chip flash.new) }
         ensures sure { IsTrue (F.chip flash.old).sure → IsOk result }
         ensures frame { Keeps (F.chip flash.old) (F.chip flash.new) }
     {
@@ -155,6 +156,7 @@ impl Journal {
         // of every flash, honest or not
         ensures reads { (F.chip flash.new).reads ≡ (F.chip flash.old).reads }
         ensures no_fault { OnOk result ((F.chip flash.new).faults ≡ (F.chip flash.old).faults) }
+        ensures once { FailsOnce (F.chip flash.old) (F.chip flash.new) }
         ensures sure { IsTrue (F.chip flash.old).sure → self.old.closed ≡ false → self.old.used < 1023 → IsOk result }
         ensures frame { Keeps (F.chip flash.old) (F.chip flash.new) }
     {

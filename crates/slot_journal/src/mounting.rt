@@ -1,6 +1,6 @@
 // A journal is found again on its flash.
 ghost use Rattle.std.specs.Prelude.{◌≡◌, ℕ, ◌+◌, ◌<◌, ◌≤◌, false, Some, IsTrue, IsOk, IfOk, IfErr, OnOk, OnErr};
-ghost use Rattle.flash_model.specs.Arming.{ReadsAtMost};
+ghost use Rattle.flash_model.specs.Arming.{FailsOnce, ReadsAtMost};
 ghost use Rattle.flash_model.specs.Chip.{IsFresh, Keeps, Stays};
 ghost use Rattle.node_limits.specs.declared.TheConstants.{BANK_RECORDS};
 ghost use Rattle.slot_definitions.specs.Slots.{slots_to, recovered, IsUsed};
@@ -58,6 +58,7 @@ impl Journal {
 
         // of every flash, honest or not
         ensures no_fault { OnOk result ((F.chip flash.new).faults ≡ (F.chip flash.old).faults) }
+        ensures once { FailsOnce (F.chip flash.old) (F.chip flash.new) }
         ensures usable { IfOk result (λ j. j.closed ≡ false) }
         ensures sure { IsTrue (F.chip flash.old).sure → IfErr result (λ e. e ≡ NoMount.NoBank) }
         ensures frame { Keeps (F.chip flash.old) (F.chip flash.new) }
@@ -90,6 +91,7 @@ fn count_used<F: Flash>(flash: &mut F, bank: u32) -> Result<u32, FlashFailed>
     ensures most_reads { ReadsAtMost BANK_RECORDS (F.chip flash.old) (F.chip flash.new) }
     ensures no_fault { OnOk result ((F.chip flash.new).faults ≡ (F.chip flash.old).faults) }
     ensures cause { OnErr result ((F.chip flash.old).faults < (F.chip flash.new).faults) }
+    ensures once { FailsOnce (F.chip flash.old) (F.chip flash.new) }
     ensures sure { IsTrue (F.chip flash.old).sure → IsOk result }
     ensures frame { Keeps (F.chip flash.old) (F.chip flash.new) }
 {

@@ -1,5 +1,6 @@
 // A flash whose octets come from outside: whether its headers are such that no cut in an erase can make one count.
 ghost use Rattle.std.specs.Prelude.{◌≡◌, IsTrue, IfErr, OnOk};
+ghost use Rattle.flash_model.specs.Arming.{FailsOnce};
 ghost use Rattle.flash_model.specs.Chip.{Keeps, Stays};
 ghost use Rattle.slot_journal.specs.Headers.{IsTidy, IsUntidyCause};
 ghost use Rattle.slot_journal.specs.declared.tidying.Untidy.TheVariants as untidy;
@@ -50,6 +51,7 @@ pub fn check_tidy<F: Flash>(flash: &mut F) -> Result<(), Untidy>
 
     // of every flash, honest or not
     ensures no_fault { OnOk result ((F.chip flash.new).faults ≡ (F.chip flash.old).faults) }
+    ensures once { FailsOnce (F.chip flash.old) (F.chip flash.new) }
     ensures sure { IsTrue (F.chip flash.old).sure → IfErr result (λ e. e ≡ untidy.Flash → ⊥) }
     ensures frame { Keeps (F.chip flash.old) (F.chip flash.new) }
 {

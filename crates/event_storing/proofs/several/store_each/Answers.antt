@@ -163,9 +163,12 @@ pub returns-in_err-store_one-clause-leaves : goal.returns-in_err-store_one-claus
 returns-in_err-store_one-clause-leaves g c =
     let before = c.loop-item.invariant in
     let leaves = c.in_err-store_one.ensures.leaves in
+    let same = before.faults in
+    let once = leaves.once in
     record {
       reads = leaves.reads ∙ before.reads;
       no_fault = on_ok_none c.from_residual.result c.in_err-store_one.field-0.0 c.from_residual.ensures.1 _;
+      once = omega (arith, same, once);
       frame = keeps_more (g.F.Flash.chip c.args.flash.now) (g.F.Flash.chip c.loop-item.flash) (g.F.Flash.chip c.store_one.new.flash) before.keeps leaves.frame;
     }
 
@@ -229,4 +232,6 @@ returns-clause-most_wear g c =
     at_most_of c.args.reserve.now.store.journal.used (length c.args.items.now) (count_of start) (count_of new) c.loop-item.reserve.store.journal.used (returns-clause-wear g c)
 
 pub returns-clause-leaves : goal.returns-clause-leaves
-returns-clause-leaves g c = record { reads = c.loop-item.invariant.reads; no_fault = c.loop-item.invariant.faults; frame = c.loop-item.invariant.keeps }
+returns-clause-leaves g c =
+    let same = c.loop-item.invariant.faults in
+    record { reads = c.loop-item.invariant.reads; no_fault = same; once = omega (arith, same); frame = c.loop-item.invariant.keeps }

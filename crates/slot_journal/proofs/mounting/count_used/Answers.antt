@@ -56,6 +56,7 @@ returns g c =
       unprogrammed = before.unprogrammed;
       most_reads = omega (arith, before.most_reads);
       no_fault = before.faults;
+      once = omega (arith, before.faults);
       cause = tt;
       sure = λ h. refl;
       frame = before.keeps;

@@ -1,6 +1,7 @@
-use Rattle.std.proofs.Common.{◌≡◌, ◌<◌, ◌∙◌, ◌++◌, ◌∷◌, [], List, ℕ, ap, sym, subst, arith}
+use Rattle.std.proofs.Common.{◌≡◌, ◌+◌, ◌-◌, ◌<◌, ◌∙◌, ◌++◌, ◌∷◌, [], List, ℕ, ap, sym, subst, arith, true}
+use Rattle.std.specs.Prelude.{min}
 use Rattle.flash_model.specs.declared.past.Past.{Past}
-use Rattle.flash_model.specs.Course.{call_of, is_failing, course_of}
+use Rattle.flash_model.specs.Course.{call_of, is_failing, is_nearer, nearer_arm, course_of}
 use Rattle.flash_model.specs.Past.{noted}
 use Rattle.flash_model.proofs.Began.{began_whole, began_cut, began_ahead, began_within, next_reached, next_ahead, next_within}
 use Rattle.flash_model.proofs.Moments.{contents_more}
@@ -27,5 +28,6 @@ invariant_of-self c =
       few = omega (arith, changes);
       fewer = omega (arith, before.fewer, changes);
       counted = before.counted;
-      within = λ not. next_within _ _ _ _ arm changes (began_within before.changes before.failed before.arm before.within (sym fails ∙ not));
+      within = next_within _ _ _ _ _ arm changes (subst (λ (p : Past). is_nearer (nearer_arm before.arm) (p.faults - p.cycled) (min (before.changes + 1) 4294967295) ≡ true) (sym is)
+          (began_within before.past found before.changes before.failed before.arm before.whole before.cut before.within));
     }

@@ -17,7 +17,7 @@ invariant_of-result c =
       few = omega arith;
       fewer = omega arith;
       counted = omega arith;
-      within = λ not. refl;
+      within = refl;
     }
 
 pub returns-clause-erased : goal.returns-clause-erased
@@ -29,6 +29,6 @@ SameSetting a b = a ≡ b
 pub returns-clause-unarmed : goal.returns-clause-unarmed
 returns-clause-unarmed c =
     subst (λ (p : Past). SameSetting
-    (record { faults = p.cycled; arm = None; saved = p.saved; moment = p.moment; called = 0; cycles = p.cycles })
-    (record { faults = p.faults; arm = None; saved = replicate 65536 255; moment = length p.contents; called = 0; cycles = 0 }))
+    (record { faults = p.cycled; arm = None; saved = p.saved; moment = p.moment; called = 0; programmed = 0; cycles = p.cycles })
+    (record { faults = p.faults; arm = None; saved = replicate 65536 255; moment = length p.contents; called = 0; programmed = 0; cycles = 0 }))
     (sym c.in_ok-past.ensures) refl

@@ -16,7 +16,7 @@ invariant_of-self c =
       few = omega arith;
       fewer = omega arith;
       counted = omega arith;
-      within = λ not. refl;
+      within = refl;
     }
 
 pub returns-clause-any_moment : goal.returns-clause-any_moment

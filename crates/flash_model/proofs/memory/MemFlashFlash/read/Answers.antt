@@ -1,5 +1,6 @@
-use Rattle.std.proofs.Common.{◌<◌, ◌∙◌, ◌++◌, ◌∷◌, [], List, ℕ, ap, sym, refl, rules, subst, arith, true≢false}
+use Rattle.std.proofs.Common.{◌-◌, ◌<◌, ◌≤◌, ◌∙◌, ◌++◌, ◌∷◌, [], List, ℕ, ap, sym, refl, rules, subst, arith, true≢false}
 use Rattle.flash_model.specs.declared.past.Past.{Past}
+use Rattle.flash_model.proofs.Began.{within_more}
 use Rattle.flash_model.proofs.Moments.{contents_more, past_note, stays_note}
 use Rattle.flash_model.proofs.memory.MemFlashFlash.read.Goals as goal
 
@@ -16,7 +17,8 @@ invariant_of-self c =
       few = before.few;
       fewer = before.fewer;
       counted = before.counted;
-      within = λ not. absurd (true≢false (sym c.if-self.true ∙ not));
+      within = within_more before.arm (before.past.faults - before.past.cycled) (c.note.new.self.faults - c.note.new.self.cycled) before.changes
+          (subst (λ (p : Past). before.past.faults - before.past.cycled ≤ p.faults - p.cycled) (sym c.note.ensures) (omega arith)) before.within;
     }
 
 pub returns-then-self-clause-stays : goal.returns-then-self-clause-stays

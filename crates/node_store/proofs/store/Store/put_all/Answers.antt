@@ -5,7 +5,7 @@ use Rattle.flash_model.proofs.Runs.{at_most_more, keeps_more, keeps_none}
 use Rattle.node_records.specs.Tables.{config_in}
 use Rattle.node_store.proofs.Mounts.{err_of, on_err_all, on_ok_none}
 use Rattle.node_store.proofs.Puts.{puts_of}
-use Rattle.node_store.proofs.Fronts.{all_calls, all_most, all_octets, calls_at_most, calls_more, config_all, config_more, erases_at_most, front_more, fronts_more, fronts_none, marks_more, most_octets, next_may, none_erased, octets_at_most, put_none, tie_all, value_all, value_more, value_none}
+use Rattle.node_store.proofs.Fronts.{all_calls, all_most, all_octets, calls_at_most, calls_more, config_all, config_more, each_all, each_more, each_none, each_some, erases_at_most, front_more, fronts_more, fronts_none, marks_more, most_octets, next_may, none_erased, octets_at_most, put_none, tie_all, value_all, value_more, value_none}
 use Rattle.store_definitions.specs.Wear.{CostsAndUses}
 use Rattle.store_definitions.proofs.Wear.{at_most_more as worn_more, at_most_none, at_most_of, at_most_of_more, paid_more, paid_none}
 use Rattle.node_store.proofs.store.Store.put_all.Goals as goal
@@ -23,6 +23,7 @@ loop-item-init g c =
       value = λ records meaning. value_none records c.args.items.now c.args.self.now.persist meaning;
       fronts = λ records tie. fronts_none chip c.args.self.now records c.args.items.now tie (laws.only_now flash);
       calls = λ room. put_none chip c.args.self.now (laws.counted flash) (laws.counted_erases flash) (laws.counted_octets flash);
+      each = each_none chip c.args.self.now (laws.counted flash) (laws.counted_erases flash) (laws.counted_octets flash);
       spent = omega arith;
       wear = paid_none c.args.self.now.journal.used (count_of chip);
       reads = refl;
@@ -54,6 +55,8 @@ loop-item-preserved g c =
           let all = records ++ take i items in
           fronts_more items i _ less start first records mid store fronts new after may.1 put.puts.value (put.puts.kept all fronts.tie) (put.cut.any_moment all fronts.tie) (put.cut.mark all fronts.tie);
       calls = λ room. calls_more (length items) i start mid new first store less room (before.calls room) after put.costs.calls put.costs.erases put.costs.octets put.used;
+      each = each_more items i _ less start mid new first store before.each after
+          (record { persist = record { config = put.puts.change; value = put.puts.value; said = put.said }; used = put.used }) put.costs.calls put.costs.erases put.costs.octets;
       spent = at_most_more (PUT_CALLS * i) PUT_CALLS (PUT_CALLS * (i + 1)) start mid new (omega arith) before.spent put.bounded;
       wear = paid_more first.journal.used i 1 (count_of start) (count_of mid) (count_of new) store.journal.used after.journal.used before.wear put.wear;
       reads = put.leaves.reads ∙ before.reads;
@@ -117,6 +120,15 @@ returns-in_err-put-clause-costs g c room =
       most_octets = octets_at_most n i start mid new c.args.self.now c.loop-item.self less room (before.calls room) costs.most_octets;
     }
 
+pub returns-in_err-put-clause-some : goal.returns-in_err-put-clause-some
+returns-in_err-put-clause-some g c open_before =
+    let start = g.F.Flash.chip c.args.flash.now in
+    let mid = g.F.Flash.chip c.loop-item.flash in
+    let new = g.F.Flash.chip c.put.new.flash in
+    let costs = c.in_err-put.ensures.costs in
+    on_err_all c.from_residual.result _
+    (each_some c.args.items.now c.loop-item.item-index c.loop-item-test.true start mid new c.args.self.now c.loop-item.self c.put.new.self c.loop-item.invariant.each c.in_err-put.ensures.refused costs.most_calls costs.most_erases costs.most_octets)
+
 pub returns-in_err-put-clause-bounded : goal.returns-in_err-put-clause-bounded
 returns-in_err-put-clause-bounded g c =
     let before = c.loop-item.invariant in
@@ -149,9 +161,12 @@ pub returns-in_err-put-clause-leaves : goal.returns-in_err-put-clause-leaves
 returns-in_err-put-clause-leaves g c =
     let before = c.loop-item.invariant in
     let leaves = c.in_err-put.ensures.leaves in
+    let same = before.faults in
+    let once = leaves.once in
     record {
       reads = leaves.reads ∙ before.reads;
       no_fault = on_ok_none c.from_residual.result c.in_err-put.field-0.0 c.from_residual.ensures.1 _;
+      once = omega (arith, same, once);
       frame = keeps_more (g.F.Flash.chip c.args.flash.now) (g.F.Flash.chip c.loop-item.flash) (g.F.Flash.chip c.put.new.flash) before.keeps leaves.frame;
     }
 
@@ -190,6 +205,11 @@ returns-clause-costs g c room =
       most_octets = most_octets n i start new (omega (arith, c.loop-item-test.false, c.loop-item.auto.item-index-end)) put.octets;
     }
 
+pub returns-clause-each : goal.returns-clause-each
+returns-clause-each g c =
+    each_all c.args.items.now c.loop-item.item-index (omega (arith, c.loop-item-test.false)) (g.F.Flash.chip c.args.flash.now) (g.F.Flash.chip c.loop-item.flash) c.args.self.now c.loop-item.self
+    c.loop-item.invariant.each
+
 pub returns-clause-wear : goal.returns-clause-wear
 returns-clause-wear g c =
     let n : ℕ = length c.args.items.now in
@@ -211,4 +231,6 @@ returns-then-is_closed-clause-most_wear g c =
     at_most_none c.args.self.now.journal.used (length c.args.items.now) (count_of chip)
 
 pub returns-clause-leaves : goal.returns-clause-leaves
-returns-clause-leaves g c = record { reads = c.loop-item.invariant.reads; no_fault = c.loop-item.invariant.faults; frame = c.loop-item.invariant.keeps }
+returns-clause-leaves g c =
+    let same = c.loop-item.invariant.faults in
+    record { reads = c.loop-item.invariant.reads; no_fault = same; once = omega (arith, same); frame = c.loop-item.invariant.keeps }

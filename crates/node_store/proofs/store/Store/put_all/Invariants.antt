@@ -8,7 +8,7 @@ use Rattle.node_records.specs.Meaning.{IsMeaningOf}
 use Rattle.node_records.specs.Tables.{config_in}
 use Rattle.store_definitions.specs.Config.{changed}
 use Rattle.store_definitions.specs.Wear.{CostsAndUses}
-use Rattle.node_store.specs.Several.{MayPut}
+use Rattle.node_store.specs.Several.{CostsEach, MayPut}
 use Rattle.node_store.specs.Tie.{IsStoreOf}
 use Rattle.node_store.proofs.Fronts.{Fronts, HasPut}
 use Rattle.node_store.proofs.store.Store.put_all.Given as goal
@@ -22,6 +22,7 @@ invariant-loop-item g l = record {
   value : (records : List StoreRecord) → IsMeaningOf records l.initial.self.persist → IsMeaningOf (records ++ take l.item-index l.items) l.self.persist;
   fronts : (records : List StoreRecord) → IsStoreOf (g.F.Flash.chip l.initial.flash) l.initial.self records → Fronts (g.F.Flash.chip l.initial.flash) l.initial.self records l.items l.item-index (g.F.Flash.chip l.flash) l.self;
   calls : l.initial.self.journal.used + length l.items ≤ 1023 → HasPut l.item-index (g.F.Flash.chip l.initial.flash) (g.F.Flash.chip l.flash) l.initial.self l.self;
+  each : CostsEach (take l.item-index l.items) (g.F.Flash.chip l.initial.flash) (g.F.Flash.chip l.flash) l.initial.self l.self;
   spent : BeginsAtMost (PUT_CALLS * l.item-index) (g.F.Flash.chip l.initial.flash) (g.F.Flash.chip l.flash);
   wear : CostsAndUses l.initial.self.journal.used l.item-index (count_of (g.F.Flash.chip l.initial.flash)) (count_of (g.F.Flash.chip l.flash)) l.self.journal.used;
   reads : (g.F.Flash.chip l.flash).reads ≡ (g.F.Flash.chip l.initial.flash).reads;
