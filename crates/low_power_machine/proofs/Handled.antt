@@ -1,5 +1,5 @@
 -- What was made of an event, as a machine shows it.
-use Rattle.std.proofs.Common.{◌≡◌, ℕ, ◌+◌, ◌<◌, ◌^◌, true, false, List, [], ◌∷◌, ◌++◌, length, ap, sym, subst, ◌∙◌}
+use Rattle.std.proofs.Common.{◌≡◌, ℕ, ◌+◌, ◌≤◌, ◌<◌, ◌^◌, true, false, List, [], ◌∷◌, ◌++◌, length, ap, sym, subst, ◌∙◌}
 use Rattle.entry_log.specs.Log.{LogView}
 use Rattle.event_definitions.specs.History.{Past}
 use Rattle.event_records.specs.Putting.{ArePuttable}
@@ -91,13 +91,13 @@ module _ (m : LowPowerNode) (event : Event) (plan : Plan) (memory : Memory) (r :
       (fit_said memory m.reserve.store.persist r.store.persist said h.fit) h.puts.usable (ready.elements ∙ ap (λ (c : Config). c.elements) (sym said)))
 
   -- the tie to the flash
-  pub stands_made : KeptLaw → StateGoesOn → (first : FlashFound) (over : List StoreRecord) → Stands first before over m → m.closed ≡ false → length m.entries + 1 < 2 ^ 32 → Keeps before after → after.reads ≡ before.reads
+  pub stands_made : KeptLaw → StateGoesOn → (first : FlashFound) (over : List StoreRecord) → Stands first before over m → m.closed ≡ false → length m.entries + 1 < 2 ^ 32 → Keeps before after → after.reads ≡ before.reads → after.faults ≡ before.faults
       → Stands first after over after_it
-  stands_made law goes first over s runs few keeps unread =
+  stands_made law goes first over s runs few keeps unread whole =
       let records : List StoreRecord = (past_now low_power_role over s.life.told m.fills).records in
       subst (λ (v : LowPowerNode). Stands first after over v) (as_entered m r memory log entry h.entries h.moves h.taken)
       (event_stands law goes m event plan memory h.plans h.may first before after over s runs r entry h.is_entry h.fills few
-      (h.puts.kept records (s.usable runs).store) (h.puts.value records (s.usable runs).before.node.meaning) h.published h.moved keeps h.wear unread)
+      (h.puts.kept records (s.usable runs).store) (h.puts.value records (s.usable runs).before.node.meaning) h.published h.moved keeps h.wear unread whole)
 
 -- The flash failed while the record of its plan was stored.
 module _ (law : KeptLaw) (goes : StateGoesOn) (m : LowPowerNode) (event : Event) (plan : Plan) (memory : Memory) (r : Reserve) (log : LogView) (before after : Chip)
@@ -109,9 +109,9 @@ module _ (law : KeptLaw) (goes : StateGoesOn) (m : LowPowerNode) (event : Event)
   pub stands_closed : (first : FlashFound) (over : List StoreRecord) (s : Stands first before over m) → m.closed ≡ false → Keeps before after
       → ((records : List StoreRecord) → IsStoreOf before m.reserve.store records → (image : List ℕ) → after.images image → IsFront records (records_by plan.answer) image)
       → ((records : List StoreRecord) → IsStoreOf before m.reserve.store records → IsDurable after r.keeper.mark)
-      → CostsAtMost m.reserve.store.journal.used (length (records_by plan.answer)) (count_of before) (count_of after) → after.reads ≡ before.reads
+      → CostsAtMost m.reserve.store.journal.used (length (records_by plan.answer)) (count_of before) (count_of after) → after.reads ≡ before.reads → after.faults ≤ before.faults + 1
       → Stands first after over closed_by_it
-  stands_closed first over s runs keeps fronts durable wear unread =
+  stands_closed first over s runs keeps fronts durable wear unread once =
       let records : List StoreRecord = (past_now low_power_role over s.life.told m.fills).records in
       let cut : IsCutIn after records (records_by plan.answer) r.keeper.mark = record {
         honest = keeps.honest ∙ s.life.node.honest;
@@ -119,7 +119,7 @@ module _ (law : KeptLaw) (goes : StateGoesOn) (m : LowPowerNode) (event : Event)
         durable = durable records (s.usable runs).store;
       } in
       subst (λ (v : LowPowerNode). Stands first after over v) (as_stopped m r memory log (H.OfEvent event) entries moves taken)
-      (event_stops law goes m event plan memory plans may first before after over s runs r cut rose keeps wear unread)
+      (event_stops law goes m event plan memory plans may first before after over s runs r cut rose keeps wear unread once)
 
   pub closes : m.closed ≡ false → r.keeper.which ≡ m.reserve.keeper.which → Closes (H.OfEvent event) (shown m) (shown closed_by_it) before after
   closes runs which = record {

@@ -1,5 +1,5 @@
 -- A Low Power node is a kind of machine, and what an event leaves of it.
-use Rattle.std.proofs.Common.{◌≡◌, ℕ, ◌+◌, ◌<◌, ◌^◌, true, false, List, [], ◌∷◌, ◌++◌, length, refl, ap, sym, subst, ◌∙◌, arith, true≢false, fold}
+use Rattle.std.proofs.Common.{◌≡◌, ℕ, ◌+◌, ◌≤◌, ◌<◌, ◌^◌, true, false, List, [], ◌∷◌, ◌++◌, length, refl, ap, sym, subst, ◌∙◌, arith, true≢false, fold}
 use Rattle.std.specs.List.{flat_map}
 use Rattle.std.specs.Option.{option_to_list}
 use Rattle.event_definitions.specs.History.{Insight, Past, Told}
@@ -125,9 +125,9 @@ module _ (law : KeptLaw) (goes : StateGoesOn) (m : LowPowerNode) (event : Event)
       → IsMeaningOf ((past_now low_power_role over s.life.told m.fills).records ++ records_by plan.answer) r.store.persist
       → IsPublished r.store r.keeper
       → went_to r.keeper.advances ≡ went_to m.reserve.keeper.advances ++ rises (config_in m.reserve.store.persist) (records_by plan.answer)
-      → Keeps old new → CostsAndUses m.reserve.store.journal.used (length (records_by plan.answer)) (count_of old) (count_of new) r.store.journal.used → new.reads ≡ old.reads
+      → Keeps old new → CostsAndUses m.reserve.store.journal.used (length (records_by plan.answer)) (count_of old) (count_of new) r.store.journal.used → new.reads ≡ old.reads → new.faults ≡ old.faults
       → Stands first new over (entered_by m r memory entry)
-  event_stands first old new over s runs r entry e fills few store meaning published moved keeps wear unread =
+  event_stands first old new over s runs r entry e fills few store meaning published moved keeps wear unread whole =
       let past : Past = past_now low_power_role over s.life.told m.fills in
       let h : IsBefore past m = (s.usable runs).before in
       let x : IsPlanned past event plan memory.lpn = planned past h in
@@ -137,21 +137,21 @@ module _ (law : KeptLaw) (goes : StateGoesOn) (m : LowPowerNode) (event : Event)
       (x.records ∙ ap (λ y. low_power_role.stores past y x.insight plan.answer) (sym e.is_of) ∙ ap (λ a. low_power_role.stores past entry.event x.insight a) (sym e.has))
       (before_more past h r entry e meaning) few store published
       (moved ∙ ap (λ (c : Config). went_to m.reserve.keeper.advances ++ rises c (records_by plan.answer)) h.node.meaning.config)
-      (omega (arith, s.began, keeps.later, ap (λ (y : Setting). y.faults) keeps.setting)) wear unread
+      (omega (arith, s.began, keeps.later, ap (λ (y : Setting). y.faults) keeps.setting)) wear unread whole
 
   -- where the flash failed
   pub event_stops : (first : FlashFound) (old new : Chip) (over : List StoreRecord) (s : Stands first old over m) → m.closed ≡ false → (r : Reserve)
       → IsCutIn new (past_now low_power_role over s.life.told m.fills).records (records_by plan.answer) r.keeper.mark
-      → old.faults < new.faults → Keeps old new → CostsAtMost m.reserve.store.journal.used (length (records_by plan.answer)) (count_of old) (count_of new) → new.reads ≡ old.reads
+      → old.faults < new.faults → Keeps old new → CostsAtMost m.reserve.store.journal.used (length (records_by plan.answer)) (count_of old) (count_of new) → new.reads ≡ old.reads → new.faults ≤ old.faults + 1
       → Stands first new over (stopped_by m r memory (H.OfEvent event))
-  event_stops first old new over s runs r cut rose keeps wear unread =
+  event_stops first old new over s runs r cut rose keeps wear unread once =
       let past : Past = past_now low_power_role over s.life.told m.fills in
       let h : IsBefore past m = (s.usable runs).before in
       let x : IsPlanned past event plan memory.lpn = planned past h in
       stopped_stands low_power_role IsBefore (low_power_kind law) first old new over m s runs r memory event x.insight (records_by plan.answer) x.sees
       (x.records ∙ ap (λ a. low_power_role.stores past event x.insight a) x.answer)
       (kept past h) cut
-      (omega (arith, s.began, rose, ap (λ (y : Setting). y.faults) keeps.setting)) wear unread
+      (omega (arith, s.began, rose, ap (λ (y : Setting). y.faults) keeps.setting)) wear unread once
 
   -- the invariant
   pub event_ready : (ready : IsReadyBy IsBefore IsFitFor m) (r : Reserve) (entry : Entry) → IsEntryOf event plan r.store.persist entry

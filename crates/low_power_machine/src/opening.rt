@@ -149,8 +149,14 @@ impl Machine for LowPowerMachine {
         self.state.inform(n, d);
     }
 
-    fn refill<F: Flash>(&mut self, n: &Numbers, flash: &mut F, dry: Dry) -> Result<u64, Stop> {
-        self.state.refill_numbers(n, flash, dry)
+    fn refill<F: Flash>(
+        &mut self,
+        n: &Numbers,
+        flash: &mut F,
+        d: &mut Drawer,
+        dry: Dry,
+    ) -> Result<u64, Stop> {
+        self.state.refill_numbers(n, flash, d, dry)
     }
 
     fn take_entries<F: Flash>(&mut self) -> Vec<Entry> {

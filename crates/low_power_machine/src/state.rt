@@ -1,7 +1,8 @@
 //! What a machine is between two calls.
 #![tactic(auto)]
 
-ghost use Rattle.std.specs.Prelude.{◌≡◌, ◌≢◌, ◌+◌, ◌<◌, ◌^◌, ◌++◌, List, All, drop, length, true, false, Ok, Err, IfOk, OnOk, IfErr};
+ghost use Rattle.std.specs.Prelude.{◌≡◌, ◌≢◌, ◌+◌, ◌<◌, ◌^◌, ◌++◌, List, All, drop, length, true, false, Ok, Err, IfOk, OnOk, IfErr, max, OnErr};
+ghost use Rattle.flash_model.specs.Arming.{FailsOnce};
 ghost use Rattle.flash_model.specs.Chip.{Keeps};
 ghost use Rattle.low_power_machine.specs.Views.{Stands, shown};
 ghost use Rattle.machine_contract.specs.Opening.{FlashFound};
@@ -10,7 +11,7 @@ ghost use Rattle.machine_contract.specs.Refused.{IsRefused};
 ghost use Rattle.machine_contract.specs.View.{entry_for, with_entry};
 ghost use Rattle.record_types.specs.declared.records.StoreRecord.{StoreRecord};
 ghost use Rattle.run_definitions.specs.Order.{is_outside};
-ghost use Rattle.seq_word.specs.Seen.{last_word, went_to};
+ghost use Rattle.seq_word.specs.Seen.{IsFoundBy, last_word, went_to};
 ghost use Rattle.seq_word.specs.Word.{seq_of};
 
 use crate::memory::Memory;
@@ -75,6 +76,7 @@ impl LowPowerState {
         ensures jobs { IfOk result (λ r. All (IsJob event.now) r.jobs) }
         ensures quiet { is_outside event.now ≡ false → IfOk result (λ r. All IsQuiet r.jobs) }
         ensures unread { (F.chip flash.new).reads ≡ (F.chip flash.old).reads }
+        ensures once { FailsOnce (F.chip flash.old) (F.chip flash.new) }
         ensures refused { IfErr result
             (IsRefused F.chip (Hand.OfEvent event.now) (shown self.old) (shown self.new) flash.old flash.new) }
         ensures closed { (shown self.old).closed ≡ true → result ≡ Err Stop.Closed }
@@ -138,16 +140,22 @@ impl LowPowerState {
         &mut self,
         n: &Numbers,
         flash: &mut F,
+        d: &mut Drawer,
         dry: Dry,
     ) -> Result<u64, Stop>
         requires made { (shown self.old).which ≡ n.now.which }
-        requires reached { dry.which ≡ n.now.which }
+        requires drawer_made { d.old.which ≡ n.now.which }
+        requires found { IsFoundBy dry d.old }
         requires seq { seq_of dry.mark < 2 ^ 24 }
 
         ensures filled { dry.mark ≡ (shown self.old).mark
             → OnOk result
             (shown self.new
             ≡ record (shown self.old) { fills = (shown self.old).fills + 1; mark = dry.mark + 256 }) }
+        ensures owes { dry.mark ≡ (shown self.old).mark
+            → OnOk result (d.new ≡ record d.old { owes = max d.old.owes (dry.next + 1) }) }
+        ensures stays { dry.mark ≢ (shown self.old).mark → d.new ≡ d.old }
+        ensures failed { OnErr result (d.new ≡ d.old) }
         ensures nothing { dry.mark ≢ (shown self.old).mark → (shown self.old).closed ≡ false
             → (result ≡ Ok (shown self.old).mark) × (shown self.new ≡ shown self.old) × (flash.new ≡ flash.old) }
         ensures value { IfOk result (λ mark. mark ≡ (shown self.new).mark) }
@@ -159,6 +167,7 @@ impl LowPowerState {
         ensures closed { (shown self.old).closed ≡ true → result ≡ Err Stop.Closed }
         ensures memory { result ≢ Err Stop.Memory }
         ensures unread { (F.chip flash.new).reads ≡ (F.chip flash.old).reads }
+        ensures once { FailsOnce (F.chip flash.old) (F.chip flash.new) }
         ensures refused { IfErr result
             (IsRefused F.chip Hand.OfRefill (shown self.old) (shown self.new) flash.old flash.new) }
         ensures kept { (first : FlashFound) (over : List StoreRecord) → Stands first (F.chip flash.old) over self.old
@@ -175,7 +184,7 @@ impl LowPowerState {
         }
         // It does nothing when it runs: the proof uses what it says.
         node_law();
-        match self.reserve.refill(n, flash, dry) {
+        match self.reserve.refill(n, flash, d, dry) {
             Ok(mark) => {
                 self.fills += 1;
                 Ok(mark)

@@ -1,6 +1,6 @@
 -- A flash from which a life can be opened.
 use Rattle.std.specs.Prelude.{◌≡◌, ℕ, List, ◌++◌, All, IsTrue}
-use Rattle.flash_model.specs.Arming.{BeginsAtMost, ErasesAtMost, ProgramsAtMost, ReadsAtMost}
+use Rattle.flash_model.specs.Arming.{BeginsAtMost, ErasesAtMost, FailsOnce, ProgramsAtMost, ReadsAtMost}
 use Rattle.flash_model.specs.Chip.{CallCount, Chip, Stays, count_of}
 use Rattle.node_limits.specs.declared.TheConstants.{BANK_SECTORS, COMPACTION_CALLS}
 use Rattle.record_types.specs.declared.records.StoreRecord.{StoreRecord}
@@ -20,14 +20,15 @@ pub record IsNodeFlash (IsNodeImage : List ℕ → Type 0) (chip : Chip) : Type 
   pub honest : IsTrue chip.honest
   pub each : (image : List ℕ) → chip.images image → IsNodeImage image
 
--- What a life finds of a flash: what is read, and how many program and erase calls, and read calls, were begun so far.
+-- What a life finds of a flash: what is read, how many program and erase calls, and read calls, were begun so far, and how often it has failed.
 pub record FlashFound : Type 0 where
   pub now : List ℕ
   pub count : CallCount
   pub reads : ℕ
+  pub faults : ℕ
 
 abbrev pub found_of : Chip → FlashFound
-found_of chip = record { now = chip.now; count = count_of chip; reads = chip.reads }
+found_of chip = record { now = chip.now; count = count_of chip; reads = chip.reads; faults = chip.faults }
 
 -- these records say what those of before and the ones behind them say, and all of these are in range
 pub record IsLeft (before more next : List StoreRecord) : Type 0 where
@@ -40,10 +41,11 @@ pub record IsUnwritten (old new : Chip) : Type 0 where
   pub no_calls : count_of new ≡ count_of old
 
 -- Opening a life writes nothing to a flash that isn't of format 01. One that is may be migrated, with the calls of that at most. It reads at most
--- what a mount does.
+-- what a mount does, and once a call of the flash has failed, none is made.
 pub record MigratesOnly (old new : Chip) : Type 0 where
   pub unwritten : ¬ HasFormat 1 old.now → IsUnwritten old new
   pub most_calls : BeginsAtMost COMPACTION_CALLS old new
   pub most_erases : ErasesAtMost BANK_SECTORS old new
   pub most_octets : ProgramsAtMost COMPACTION_OCTETS old new
   pub most_reads : ReadsAtMost MOUNT_READS old new
+  pub once : FailsOnce old new

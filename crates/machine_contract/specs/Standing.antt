@@ -54,8 +54,8 @@ pub record ArePaidFor (first : FlashFound) (chip : Chip) (over now : List StoreR
   pub costs : CostsAtMost used (stored + in_hand) first.count (count_of chip)
 
 -- The entries so far were handled in order, from the records that the life opened over; an image recovers what they left, with the mark
--- that is published at most; the machine is closed only where the flash failed; and since the life found the flash it made at most the program and
--- erase calls that the records cost which were stored or in hand, and a migration, and at most the read calls of a mount.
+-- that is published at most; the machine is closed only where the flash failed, and where it isn't the flash didn't since the life found it; and since then
+-- it made at most the program and erase calls that the records cost which were stored or in hand, and a migration, and at most the read calls of a mount.
 pub record IsLifeSoFar (role : Role) (IsNodeImage : List ℕ → Type 0) (first : FlashFound) (chip : Chip)
     (over : List StoreRecord) (m : MachineView) : Type 0 where
   pub told : List Told
@@ -70,6 +70,9 @@ pub record IsLifeSoFar (role : Role) (IsNodeImage : List ℕ → Type 0) (first 
       (λ next. IsLeftBy role (past_now role over told m.fills) m.hand next × (m.mark ≤ (config_of next).mark))
   pub idle : m.closed ≡ false → m.hand ≡ H.Nothing
   pub failed : m.closed ≡ true → chip.setting.faults < chip.faults
+  pub no_fault : m.closed ≡ false → chip.faults ≡ first.faults
+  -- once a call of the flash has failed, none is made
+  pub once : chip.faults ≤ first.faults + 1
   pub in_hand : ℕ
   pub hand : AreInHand role (past_now role over told m.fills) m.hand in_hand
   pub paid : ArePaidFor first chip over (past_now role over told m.fills).records in_hand

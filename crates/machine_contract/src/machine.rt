@@ -1,7 +1,8 @@
 //! The machine of a node.
 #![tactic(auto)]
 
-ghost use Rattle.std.specs.Prelude.{◌≡◌, ◌≢◌, ℕ, ◌+◌, ◌<◌, ◌≤◌, ◌^◌, List, [], ◌∷◌, ◌++◌, length, drop, All, true, false, Ok, Err, IsErr, IfOk, OnOk, IfErr, ◌-◌};
+ghost use Rattle.std.specs.Prelude.{◌≡◌, ◌≢◌, ℕ, ◌+◌, ◌<◌, ◌≤◌, ◌^◌, List, [], ◌∷◌, ◌++◌, length, drop, All, true, false, Ok, Err, IsErr, IfOk, OnOk, IfErr, ◌-◌, max, OnErr};
+ghost use Rattle.flash_model.specs.Arming.{FailsOnce};
 ghost use Rattle.flash_model.specs.Chip.{Chip, IsFresh, Keeps};
 ghost use Rattle.mesh_types.specs.declared.events.Event.{Event as AnEvent};
 ghost use Rattle.mesh_types.specs.declared.events.Event.TheVariants as E;
@@ -9,7 +10,7 @@ ghost use Rattle.record_types.specs.declared.records.StoreRecord.{StoreRecord};
 ghost use Rattle.event_definitions.specs.History.{Past};
 ghost use Rattle.event_definitions.specs.Role.{Role};
 ghost use Rattle.run_definitions.specs.Order.{is_outside};
-ghost use Rattle.seq_word.specs.Seen.{last_word, went_to};
+ghost use Rattle.seq_word.specs.Seen.{IsFoundBy, last_word, went_to};
 ghost use Rattle.seq_word.specs.Word.{seq_of};
 ghost use Rattle.machine_contract.specs.Idle.{IsDueIn, IsIdleFor, IsQuietTick};
 ghost use Rattle.machine_contract.specs.Moved.{HasMoved};
@@ -71,7 +72,7 @@ pub trait Machine: Send + Drop {
     ///
     /// The counter opens at the mark that the records say. Nothing is written but where a flash of format 01 is migrated: the content of another
     /// one stays, and it counts no program or erase call (`writes`). A node that was reset isn't migrated, also where the flash fails (`reset`). It
-    /// makes at most the read calls of a mount (`writes`).
+    /// makes at most the read calls of a mount, and calls the flash no more once it has failed (`writes`).
     fn start<F: Flash>(alloc: Global, flash: &mut F) -> Result<Started<Self>, StartFault>
         requires fresh { IsFresh (F.chip flash.old) }
         requires node { IsNodeFlash image (F.chip flash.old) }
@@ -106,7 +107,8 @@ pub trait Machine: Send + Drop {
             → fits reader.new other event };
 
     /// Handles an event of a bearer, which is the one with this number among its events, from 1 on. What was read before is used where the machine
-    /// would read the same now; else it reads again. It reads nothing of the flash, whatever it answers (`unread`).
+    /// would read the same now; else it reads again. It reads nothing of the flash, whatever it answers (`unread`),
+    /// and calls it no more once it has failed (`once`).
     fn handle<F: Flash>(
         &mut self,
         n: &Numbers,
@@ -132,6 +134,8 @@ pub trait Machine: Send + Drop {
         ensures quiet { is_outside event.now ≡ false → IfOk result (λ r. All IsQuiet r.jobs) }
         // It makes no read call on the flash, whatever it answers.
         ensures unread { (F.chip flash.new).reads ≡ (F.chip flash.old).reads }
+        // Once a call of the flash has failed, it makes none.
+        ensures once { FailsOnce (F.chip flash.old) (F.chip flash.new) }
 
         ensures refused { IfErr result
             (IsRefused F.chip (Hand.OfEvent event.now) (view self.old) (view self.new) flash.old flash.new) }
@@ -151,19 +155,32 @@ pub trait Machine: Send + Drop {
 
     /// Stores a refill, and publishes its mark, 256 higher, where the mark that a draw reached is the one published last (`filled`); else a
     /// refill came between, and nothing changes (`nothing`). Returns the mark that is published then. It takes no memory, and reads nothing of the
-    /// flash, whatever it answers (`unread`).
+    /// flash, whatever it answers (`unread`), nor calls it once it has failed (`once`).
     ///
     /// It takes what the draw answered, since a mark is published with that alone: so there is no refill without a draw that found the counter
-    /// at the mark, and the mark is at most 256 above the counter when the words are closed (`near` of `close` in `seq_word`).
-    fn refill<F: Flash>(&mut self, n: &Numbers, flash: &mut F, dry: Dry) -> Result<u64, Stop>
+    /// at the mark, and the mark is at most 256 above the counter when the words are closed (`near` of `close` in `seq_word`). The seat that drew
+    /// owes another draw once the mark is published (`owes`), else it stays as it is: so where none owes one, the mark is less than 256 above
+    /// (`paid` of `close`).
+    fn refill<F: Flash>(
+        &mut self,
+        n: &Numbers,
+        flash: &mut F,
+        d: &mut Drawer,
+        dry: Dry,
+    ) -> Result<u64, Stop>
         requires made { (view self.old).which ≡ n.now.which }
-        requires reached { dry.which ≡ n.now.which }
+        requires drawer_made { d.old.which ≡ n.now.which }
+        requires found { IsFoundBy dry d.old }
         requires seq { seq_of dry.mark < 2 ^ 24 }
 
         ensures filled { dry.mark ≡ (view self.old).mark
             → OnOk result
             (view self.new
             ≡ record (view self.old) { fills = (view self.old).fills + 1; mark = dry.mark + 256 }) }
+        ensures owes { dry.mark ≡ (view self.old).mark
+            → OnOk result (d.new ≡ record d.old { owes = max d.old.owes (dry.next + 1) }) }
+        ensures stays { dry.mark ≢ (view self.old).mark → d.new ≡ d.old }
+        ensures failed { OnErr result (d.new ≡ d.old) }
         ensures nothing { dry.mark ≢ (view self.old).mark → (view self.old).closed ≡ false
             → (result ≡ Ok (view self.old).mark) × (view self.new ≡ view self.old) × (flash.new ≡ flash.old) }
         ensures value { IfOk result (λ mark. mark ≡ (view self.new).mark) }
@@ -178,6 +195,8 @@ pub trait Machine: Send + Drop {
         ensures memory { result ≢ Err Stop.Memory }
         // It makes no read call on the flash, whatever it answers.
         ensures unread { (F.chip flash.new).reads ≡ (F.chip flash.old).reads }
+        // Once a call of the flash has failed, it makes none.
+        ensures once { FailsOnce (F.chip flash.old) (F.chip flash.new) }
 
         ensures kept { (first : FlashFound) (over : List StoreRecord) → stands first (F.chip flash.old) over self.old
             → stands first (F.chip flash.new) over self.new }

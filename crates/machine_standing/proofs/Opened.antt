@@ -35,9 +35,9 @@ use Rattle.store_definitions.specs.Wear.{CostsAndUses, CostsAtMost, IsTakenUp, M
 pub opened_stands : {Memory : Type 0} (role : Role) (Before : Past → LifeMachine Memory → Type 0) (first : FlashFound) (chip : Chip) (over : List StoreRecord) (r : Reserve) (t : Memory) (elements : ℕ)
     → IsStoreOf chip r.store over → IsNodeStore over r.store.persist → Before (record { told = []; records = over }) (opened_by r t elements)
     → IsPublished r.store r.keeper → r.keeper.advances ≡ [] → elements ≡ r.store.persist.elements → chip.setting.faults ≤ chip.faults
-    → (used : ℕ) → IsTakenUp first.now used → CostsAndUses used 0 first.count (count_of chip) r.store.journal.used → chip.reads ≤ first.reads + MOUNT_READS
+    → (used : ℕ) → IsTakenUp first.now used → CostsAndUses used 0 first.count (count_of chip) r.store.journal.used → chip.reads ≤ first.reads + MOUNT_READS → chip.faults ≡ first.faults
     → StandsBy role Before first chip over (opened_by r t elements)
-opened_stands role Before first chip over r t elements store node before published none is began used taken_up wear few_reads = record {
+opened_stands role Before first chip over r t elements store node before published none is began used taken_up wear few_reads whole = record {
   life = record {
     told = [];
     entries = refl;
@@ -49,6 +49,8 @@ opened_stands role Before first chip over r t elements store node before publish
     left = λ image next held found. (store_left chip r.store over store node.ranges image next held found, store_mark chip r.store over r.keeper.mark store published image next held found);
     idle = λ e. refl;
     failed = λ e. absurd (true≢false (sym e));
+    no_fault = λ e. whole;
+    once = omega (arith, whole);
     in_hand = 0;
     hand = refl;
     paid = record {
@@ -122,6 +124,8 @@ stands_same role Before first old new over m same s = record {
     left = λ image next is found. s.life.left image next (same.stays image is) found;
     idle = s.life.idle;
     failed = λ e. omega (arith, s.life.failed e, same.faults, same.began);
+    no_fault = λ e. same.faults ∙ s.life.no_fault e;
+    once = omega (arith, same.faults, s.life.once);
     in_hand = s.life.in_hand;
     hand = s.life.hand;
     paid = record {

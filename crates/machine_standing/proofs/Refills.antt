@@ -76,23 +76,23 @@ module _ {Memory : Type 0} (role : Role) (Before : Past → LifeMachine Memory �
       → IsStoreOf new r.store (with_fill (past_now role over s.life.told m.fills)).records
       → IsMeaningOf (with_fill (past_now role over s.life.told m.fills)).records r.store.persist
       → IsPublished r.store r.keeper → r.keeper.advances ≡ m.reserve.keeper.advances → Keeps old new
-      → CostsAndUses m.reserve.store.journal.used 1 (count_of old) (count_of new) r.store.journal.used → new.reads ≡ old.reads
+      → CostsAndUses m.reserve.store.journal.used 1 (count_of old) (count_of new) r.store.journal.used → new.reads ≡ old.reads → new.faults ≡ old.faults
       → StandsBy role Before first new over (refilled_by m r)
-  refill_stands first old new over s runs r before seq store meaning published same keeps wear unread =
+  refill_stands first old new over s runs r before seq store meaning published same keeps wear unread whole =
       let past : Past = past_now role over s.life.told m.fills in
       refilled_stands role Before kind first old new over m s runs r (refill_kept past (s.usable runs).before before seq) store published meaning same
-      (omega (arith, s.began, keeps.later, ap (λ (x : Setting). x.faults) keeps.setting)) wear unread
+      (omega (arith, s.began, keeps.later, ap (λ (x : Setting). x.faults) keeps.setting)) wear unread whole
 
   pub refill_stops : (first : FlashFound) (old new : Chip) (over : List StoreRecord) (s : StandsBy role Before first old over m) → m.closed ≡ false → (r : Reserve)
       → IsPublished m.reserve.store m.reserve.keeper → seq_of m.reserve.keeper.mark < 2 ^ 24
       → IsCutIn new (past_now role over s.life.told m.fills).records (fill_of (config_of (past_now role over s.life.told m.fills).records) ∷ []) r.keeper.mark
       → old.faults < new.faults → Keeps old new
-      → CostsAtMost m.reserve.store.journal.used 1 (count_of old) (count_of new) → new.reads ≡ old.reads
+      → CostsAtMost m.reserve.store.journal.used 1 (count_of old) (count_of new) → new.reads ≡ old.reads → new.faults ≤ old.faults + 1
       → StandsBy role Before first new over (stopped_by m r m.tables H.OfRefill)
-  refill_stops first old new over s runs r before seq cut rose keeps wear unread =
+  refill_stops first old new over s runs r before seq cut rose keeps wear unread once =
       let past : Past = past_now role over s.life.told m.fills in
       unfilled_stands role Before kind first old new over m s runs r (refill_kept past (s.usable runs).before before seq) cut
-      (omega (arith, s.began, rose, ap (λ (x : Setting). x.faults) keeps.setting)) wear unread
+      (omega (arith, s.began, rose, ap (λ (x : Setting). x.faults) keeps.setting)) wear unread once
 
   pub refill_ready : (Fits : Memory → Persist → Type 0) (ready : IsReadyBy Before Fits m) (r : Reserve) → seq_of m.reserve.keeper.mark < 2 ^ 24
       → IsMeaningOf (with_fill ready.past).records r.store.persist → IsPublished r.store r.keeper → r.store.journal.closed ≡ false

@@ -84,9 +84,9 @@ module _ {Memory : Type 0} (role : Role) (Before : Past → LifeMachine Memory �
       → Before (past_with past entry insight records) (entered_by m r tables entry) → length m.entries + 1 < 2 ^ 32
       → IsStoreOf new r.store (past.records ++ records) → r.keeper.mark ≡ r.store.persist.mark
       → went_to r.keeper.advances ≡ went_to m.reserve.keeper.advances ++ rises (config_of past.records) records → new.setting.faults ≤ new.faults
-      → CostsAndUses m.reserve.store.journal.used (length records) (count_of old) (count_of new) r.store.journal.used → new.reads ≡ old.reads
+      → CostsAndUses m.reserve.store.journal.used (length records) (count_of old) (count_of new) r.store.journal.used → new.reads ≡ old.reads → new.faults ≡ old.faults
       → StandsBy role Before first new over (entered_by m r tables entry)
-  entered_stands r tables entry insight records fills handles is before few store mark moved began wear unread =
+  entered_stands r tables entry insight records fills handles is before few store mark moved began wear unread whole =
       let t : Told = told_by past entry insight in
       let all : List StoreRecord = past.records ++ records in
       let left_is : records_left role over [] (past.told ++ t ∷ []) ≡ all =
@@ -111,6 +111,8 @@ module _ {Memory : Type 0} (role : Role) (Before : Past → LifeMachine Memory �
           );
           idle = s.life.idle;
           failed = λ closed. absurd (true≢false (sym closed ∙ runs));
+          no_fault = λ e. whole ∙ s.life.no_fault runs;
+          once = omega (arith, whole, s.life.once);
           in_hand = 0;
           hand = subst (λ h. AreInHand role (past_now role over (past.told ++ t ∷ []) 0) h 0) (sym (s.life.idle runs)) refl;
           paid = record {
@@ -133,9 +135,9 @@ module _ {Memory : Type 0} (role : Role) (Before : Past → LifeMachine Memory �
       → role.sees past event insight
       → records ≡ role.stores past event insight (role.answer past event insight) → AreKept (config_of past.records) records
       → IsCutIn new past.records records r.keeper.mark → new.setting.faults < new.faults
-      → CostsAtMost m.reserve.store.journal.used (length records) (count_of old) (count_of new) → new.reads ≡ old.reads
+      → CostsAtMost m.reserve.store.journal.used (length records) (count_of old) (count_of new) → new.reads ≡ old.reads → new.faults ≤ old.faults + 1
       → StandsBy role Before first new over (stopped_by m r tables (H.OfEvent event))
-  stopped_stands r tables event insight records sees is kept cut rose wear unread = record {
+  stopped_stands r tables event insight records sees is kept cut rose wear unread once = record {
     life = record {
       told = past.told;
       entries = s.life.entries;
@@ -152,6 +154,8 @@ module _ {Memory : Type 0} (role : Role) (Before : Past → LifeMachine Memory �
       );
       idle = λ e. absurd (true≢false e);
       failed = λ e. rose;
+      no_fault = λ e. absurd (true≢false e);
+      once = let was = s.life.no_fault runs in omega (arith, once, was);
       in_hand = length records;
       hand = (insight, sees, ap length is);
       paid = record {
@@ -179,9 +183,9 @@ module _ {Memory : Type 0} (role : Role) (Before : Past → LifeMachine Memory �
   -- A machine that a failed refill closed.
   pub unfilled_stands : (r : Reserve) → AreKept (config_of past.records) (fill_of (config_of past.records) ∷ [])
       → IsCutIn new past.records (fill_of (config_of past.records) ∷ []) r.keeper.mark → new.setting.faults < new.faults
-      → CostsAtMost m.reserve.store.journal.used 1 (count_of old) (count_of new) → new.reads ≡ old.reads
+      → CostsAtMost m.reserve.store.journal.used 1 (count_of old) (count_of new) → new.reads ≡ old.reads → new.faults ≤ old.faults + 1
       → StandsBy role Before first new over (stopped_by m r m.tables H.OfRefill)
-  unfilled_stands r kept cut rose wear unread = record {
+  unfilled_stands r kept cut rose wear unread once = record {
     life = record {
       told = past.told;
       entries = s.life.entries;
@@ -196,6 +200,8 @@ module _ {Memory : Type 0} (role : Role) (Before : Past → LifeMachine Memory �
       );
       idle = λ e. absurd (true≢false e);
       failed = λ e. rose;
+      no_fault = λ e. absurd (true≢false e);
+      once = let was = s.life.no_fault runs in omega (arith, once, was);
       in_hand = 1;
       hand = refl;
       paid = record {
@@ -224,9 +230,9 @@ module _ {Memory : Type 0} (role : Role) (Before : Past → LifeMachine Memory �
       → IsStoreOf new r.store (past.records ++ fill_of (config_of past.records) ∷ []) → r.keeper.mark ≡ r.store.persist.mark
       → IsMeaningOf (past.records ++ fill_of (config_of past.records) ∷ []) r.store.persist
       → r.keeper.advances ≡ m.reserve.keeper.advances → new.setting.faults ≤ new.faults
-      → CostsAndUses m.reserve.store.journal.used 1 (count_of old) (count_of new) r.store.journal.used → new.reads ≡ old.reads
+      → CostsAndUses m.reserve.store.journal.used 1 (count_of old) (count_of new) r.store.journal.used → new.reads ≡ old.reads → new.faults ≡ old.faults
       → StandsBy role Before first new over (refilled_by m r)
-  refilled_stands r kept store mark meaning same began wear unread =
+  refilled_stands r kept store mark meaning same began wear unread whole =
       let item : List StoreRecord = fill_of (config_of past.records) ∷ [] in
       let all : List StoreRecord = past.records ++ item in
       let left_is : filled (m.fills + 1) (records_left role over [] past.told) ≡ all =
@@ -251,6 +257,8 @@ module _ {Memory : Type 0} (role : Role) (Before : Past → LifeMachine Memory �
           );
           idle = s.life.idle;
           failed = λ closed. absurd (true≢false (sym closed ∙ runs));
+          no_fault = λ e. whole ∙ s.life.no_fault runs;
+          once = omega (arith, whole, s.life.once);
           in_hand = 0;
           hand = subst (λ h. AreInHand role (past_now role over past.told (m.fills + 1)) h 0) (sym (s.life.idle runs)) refl;
           paid = record {

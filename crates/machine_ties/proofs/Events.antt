@@ -176,9 +176,9 @@ module _ (laws : AreKeeping) (m : NodeMachine) (event : Event) (plan : Plan) (pl
       → went_to r.keeper.advances
       ≡ went_to m.reserve.keeper.advances ++ rises (config_of (past_now (node_role node_layers) over s.life.told m.fills).records) plan.records
       → Keeps old new
-      → CostsAndUses m.reserve.store.journal.used (length plan.records) (count_of old) (count_of new) r.store.journal.used → new.reads ≡ old.reads
+      → CostsAndUses m.reserve.store.journal.used (length plan.records) (count_of old) (count_of new) r.store.journal.used → new.reads ≡ old.reads → new.faults ≡ old.faults
       → Stands first new over (entered m r tables entry)
-  event_stands first old new over s runs r tables entry planned may bounded renewed e fills few store meaning published moved keeps wear unread =
+  event_stands first old new over s runs r tables entry planned may bounded renewed e fills few store meaning published moved keeps wear unread whole =
       let past : Past = past_now (node_role node_layers) over s.life.told m.fills in
       let h : IsBefore past m = (s.usable runs).before in
       let kept : AreKept (config_of past.records) plan.records = plan_kept laws past m event plan planned_tables h planned may bounded in
@@ -190,7 +190,7 @@ module _ (laws : AreKeeping) (m : NodeMachine) (event : Event) (plan : Plan) (pl
       (renewed _ (planned.tables (told_by past entry (insight_in plan.basis)) (past.records ++ plan.records) e.is_of refl e.has refl (kept_node_of past.records plan.records kept).elements))
       handles.sees is)
       few store published moved
-      (omega (arith, s.began, keeps.later, ap (λ (x : Setting). x.faults) keeps.setting)) wear unread
+      (omega (arith, s.began, keeps.later, ap (λ (x : Setting). x.faults) keeps.setting)) wear unread whole
 
   -- where the flash failed
   pub event_stops : (first : FlashFound) (old new : Chip) (over : List StoreRecord) (s : Stands first old over m) → m.closed ≡ false
@@ -199,16 +199,16 @@ module _ (laws : AreKeeping) (m : NodeMachine) (event : Event) (plan : Plan) (pl
       → ArePuttable m.reserve.store.persist plan.records → IsBounded m.reserve.store.persist (insight_in plan.basis)
       → IsCutIn new (past_now (node_role node_layers) over s.life.told m.fills).records plan.records r.keeper.mark
       → old.faults < new.faults → Keeps old new
-      → CostsAtMost m.reserve.store.journal.used (length plan.records) (count_of old) (count_of new) → new.reads ≡ old.reads
+      → CostsAtMost m.reserve.store.journal.used (length plan.records) (count_of old) (count_of new) → new.reads ≡ old.reads → new.faults ≤ old.faults + 1
       → Stands first new over (stopped m r tables (H.OfEvent event))
-  event_stops first old new over s runs r tables planned may bounded cut rose keeps wear unread =
+  event_stops first old new over s runs r tables planned may bounded cut rose keeps wear unread once =
       let past : Past = past_now (node_role node_layers) over s.life.told m.fills in
       let h : IsBefore past m = (s.usable runs).before in
       let kept : AreKept (config_of past.records) plan.records = plan_kept laws past m event plan planned_tables h planned may bounded in
       stopped_stands (node_role node_layers) IsBefore (node_kind laws) first old new over m s runs r tables event (insight_in plan.basis) plan.records planned.sees
       (planned.records ∙ ap (λ a. stores node_layers past event (insight_in plan.basis) a) planned.answer)
       kept cut
-      (omega (arith, s.began, rose, ap (λ (x : Setting). x.faults) keeps.setting)) wear unread
+      (omega (arith, s.began, rose, ap (λ (x : Setting). x.faults) keeps.setting)) wear unread once
 
   -- the invariant
   pub event_ready : (ready : IsReady m) (r : Reserve) (tables : NodeTablesView) (entry : Entry)

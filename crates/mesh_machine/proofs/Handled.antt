@@ -1,5 +1,5 @@
 -- What follows for a machine of the plan of an event, and of what was made of it.
-use Rattle.std.proofs.Common.{◌≡◌, ℕ, ◌-◌, ◌<◌, ◌^◌, Bool, true, false, List, [], ◌∷◌, ◌++◌, fold, length, refl, ap, sym, subst, ◌∙◌, append-nil, arith, Option}
+use Rattle.std.proofs.Common.{◌≡◌, ℕ, ◌+◌, ◌-◌, ◌≤◌, ◌<◌, ◌^◌, Bool, true, false, List, [], ◌∷◌, ◌++◌, fold, length, refl, ap, sym, subst, ◌∙◌, append-nil, arith, Option}
 use Rattle.std.proofs.lemmas.List.Sums.{fold-append}
 use Rattle.std.specs.Prelude.{All}
 use Rattle.entry_log.specs.Log.{LogView}
@@ -300,7 +300,7 @@ module _ (laws : AreKeeping) (old new : Parts) (event : Event) (place : Place) (
       subst (λ (v : NodeMachine). Stands first after over v) as_now
       (event_stands laws machine event d.plan d.tables first before after over s runs new.reserve new.tables entry planned d.asked.may d.asked.bounded
       d.stored.tables is_entry refl d.few (d.stored.kept past.records h.store) meaning d.stored.published
-      (d.stored.moved ∙ ap (λ (x : Config). went_to old.reserve.keeper.advances ++ rises x d.plan.records) h.before.standing.meaning.config) keeps d.stored.wear unread)
+      (d.stored.moved ∙ ap (λ (x : Config). went_to old.reserve.keeper.advances ++ rises x d.plan.records) h.before.standing.meaning.config) keeps d.stored.wear unread d.stored.no_fault)
 
 -- An event at which the flash failed.
 
@@ -314,9 +314,9 @@ module _ (laws : AreKeeping) (old new : Parts) (event : Event) (before after : C
       ∙ ap (λ (l : List ℕ). record (stopped cut_machine new.reserve new.tables (H.OfEvent event)) { entries = new.history.entries; moves = l }) (sym d.moves)
       ∙ ap (λ n. record (stopped cut_machine new.reserve new.tables (H.OfEvent event)) { entries = new.history.entries; moves = new.history.moves; taken = n }) (sym d.taken)
 
-  pub stands_stopped : (first : FlashFound) (over : List StoreRecord) → Stands first before over cut_machine → closed ≡ false → Keeps before after → after.reads ≡ before.reads
+  pub stands_stopped : (first : FlashFound) (over : List StoreRecord) → Stands first before over cut_machine → closed ≡ false → Keeps before after → after.reads ≡ before.reads → after.faults ≤ before.faults + 1
       → Stands first after over (machine_of new fills true (H.OfEvent event) elements)
-  stands_stopped first over s runs keeps unread =
+  stands_stopped first over s runs keeps unread once =
       let past : Past = past_now (node_role node_layers) over s.life.told fills in
       let h : IsOver before past cut_machine = s.usable runs in
       let planned : IsPlanned past event d.plan d.tables = d.asked.planned past h.before.standing in
@@ -326,7 +326,7 @@ module _ (laws : AreKeeping) (old new : Parts) (event : Event) (before after : C
         durable = d.halted.durable past.records h.store;
       } in
       subst (λ (v : NodeMachine). Stands first after over v) stopped_now
-      (event_stops laws cut_machine event d.plan d.tables first before after over s runs new.reserve new.tables planned d.asked.may d.asked.bounded cut d.halted.rose keeps d.halted.wear unread)
+      (event_stops laws cut_machine event d.plan d.tables first before after over s runs new.reserve new.tables planned d.asked.may d.asked.bounded cut d.halted.rose keeps d.halted.wear unread once)
 
   -- what is shown
   pub closes_stopped : closed ≡ false → Closes (H.OfEvent event) (shown cut_machine) (shown (machine_of new fills true (H.OfEvent event) elements)) before after

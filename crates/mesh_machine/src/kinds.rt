@@ -6,6 +6,7 @@ ghost use Rattle.std.specs.Prelude.{◌≡◌, IfOk, IfErr};
 ghost use Rattle.early_reading.specs.Known.{IsKnown};
 ghost use Rattle.event_plans.specs.Memory.{view_in};
 ghost use Rattle.event_plans.specs.Sending.{IsOwn};
+ghost use Rattle.flash_model.specs.Arming.{FailsOnce};
 ghost use Rattle.flash_model.specs.Chip.{Keeps};
 ghost use Rattle.mesh_machine.specs.Handling.{HasRoom, IsActed, IsDone, IsKnownFor, IsStopped, IsTurnOf};
 ghost use Rattle.mesh_types.specs.declared.events.Event.TheVariants as E;
@@ -56,6 +57,7 @@ fn hear<F: Flash>(
     ensures stopped { IfErr result
         (IsStopped F.chip (E.Net octets.now) parts.old parts.new flash.old flash.new) }
     ensures unread { (F.chip flash.new).reads ≡ (F.chip flash.old).reads }
+    ensures once { FailsOnce (F.chip flash.old) (F.chip flash.new) }
     ensures frame { Keeps (F.chip flash.old) (F.chip flash.new) }
 {
     let Pending {
@@ -106,6 +108,7 @@ fn hear_beacon<F: Flash>(
     ensures stopped { IfErr result
         (IsStopped F.chip (E.Bcn octets.now) parts.old parts.new flash.old flash.new) }
     ensures unread { (F.chip flash.new).reads ≡ (F.chip flash.old).reads }
+    ensures once { FailsOnce (F.chip flash.old) (F.chip flash.new) }
     ensures frame { Keeps (F.chip flash.old) (F.chip flash.new) }
 {
     let Pending {
@@ -150,6 +153,7 @@ fn tick<F: Flash>(
     ensures stopped { IfErr result
         (IsStopped F.chip (E.Tick ticks) parts.old parts.new flash.old flash.new) }
     ensures unread { (F.chip flash.new).reads ≡ (F.chip flash.old).reads }
+    ensures once { FailsOnce (F.chip flash.old) (F.chip flash.new) }
     ensures frame { Keeps (F.chip flash.old) (F.chip flash.new) }
 {
     let Pending {
@@ -226,6 +230,7 @@ pub(crate) fn handle<F: Flash>(
         (IsDone parts.old parts.new pending.entry.event.now pending.entry.place (F.chip flash.old) (F.chip flash.new)) }
     ensures stopped { IfErr result (IsStopped F.chip pending.entry.event.now parts.old parts.new flash.old flash.new) }
     ensures unread { (F.chip flash.new).reads ≡ (F.chip flash.old).reads }
+    ensures once { FailsOnce (F.chip flash.old) (F.chip flash.new) }
     ensures frame { Keeps (F.chip flash.old) (F.chip flash.new) }
 {
     let event = pending.event;

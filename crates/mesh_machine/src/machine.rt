@@ -4,6 +4,7 @@
 ghost use Rattle.std.specs.Prelude.{◌≡◌, ◌+◌, ℕ, List, All, length, true, false, Err, Some, IfErr, IfOk, IfSome, IsTrue, OnOk, ◌↔◌};
 ghost use Rattle.early_reading.specs.Known.{IsKnown};
 ghost use Rattle.early_reading.specs.Views.{IsRead, read_before};
+ghost use Rattle.flash_model.specs.Arming.{FailsOnce};
 ghost use Rattle.flash_model.specs.Chip.{Keeps};
 ghost use Rattle.event_world.specs.Stepping.{HasStepped};
 ghost use Rattle.machine_contract.specs.Opening.{FlashFound};
@@ -114,6 +115,7 @@ impl MeshMachine {
         ensures jobs { IfOk result (λ r. All (IsJob event.now) r.jobs) }
         ensures quiet { is_outside event.now ≡ false → IfOk result (λ r. All IsQuiet r.jobs) }
         ensures unread { (F.chip flash.new).reads ≡ (F.chip flash.old).reads }
+        ensures once { FailsOnce (F.chip flash.old) (F.chip flash.new) }
         ensures steps { (w : World) → IsWorldOf w (persist_of self.old) (persist_of self.old).mark
             → IfOk result (λ r. HasStepped w (persist_of self.old) (persist_of self.new) event.now r.answer) }
         ensures refused { IfErr result
@@ -156,6 +158,7 @@ impl MeshMachine {
         ensures no_fault { OnOk result ((F.chip flash.new).faults ≡ (F.chip flash.old).faults) }
         ensures jobs { IfOk result (λ r. All (IsJob (E.Net octets.now)) r.jobs) }
         ensures unread { (F.chip flash.new).reads ≡ (F.chip flash.old).reads }
+        ensures once { FailsOnce (F.chip flash.old) (F.chip flash.new) }
         ensures refused { IfErr result
             (IsRefused F.chip (Hand.OfEvent (E.Net octets.now)) (shown self.old) (shown self.new) flash.old flash.new) }
         ensures closed { (shown self.old).closed ≡ true → result ≡ Err Stop.Closed }

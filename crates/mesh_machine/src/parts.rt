@@ -3,6 +3,7 @@
 
 ghost use Rattle.std.specs.Prelude.{◌≡◌, false, fold, OnOk, OnErr};
 ghost use Rattle.event_records.specs.Putting.{AreMoves, ArePuttable};
+ghost use Rattle.flash_model.specs.Arming.{FailsOnce};
 ghost use Rattle.flash_model.specs.Chip.{Keeps};
 ghost use Rattle.mesh_hearing.specs.Tables.{IsFit};
 ghost use Rattle.mesh_machine.specs.Handling.{AreHalted, AreStored};
@@ -56,6 +57,7 @@ pub(crate) fn store<F: Flash>(
     ensures made { parts.new.reserve.keeper.which ≡ parts.old.reserve.keeper.which }
     ensures history { parts.new.history ≡ parts.old.history }
     ensures unread { (F.chip flash.new).reads ≡ (F.chip flash.old).reads }
+    ensures once { FailsOnce (F.chip flash.old) (F.chip flash.new) }
     ensures frame { Keeps (F.chip flash.old) (F.chip flash.new) }
 {
     store_records(&mut parts.reserve, n, flash, records)?;

@@ -1,8 +1,9 @@
 //! What a machine is between two calls.
 #![tactic(auto)]
 
-ghost use Rattle.std.specs.Prelude.{◌≡◌, ◌≢◌, ◌+◌, ◌<◌, ◌^◌, ◌++◌, List, All, drop, length, true, false, Ok, Err, IfOk, OnOk, IfErr};
+ghost use Rattle.std.specs.Prelude.{◌≡◌, ◌≢◌, ◌+◌, ◌<◌, ◌^◌, ◌++◌, List, All, drop, length, true, false, Ok, Err, IfOk, OnOk, IfErr, max, OnErr};
 ghost use Rattle.event_world.specs.Stepping.{HasStepped};
+ghost use Rattle.flash_model.specs.Arming.{FailsOnce};
 ghost use Rattle.flash_model.specs.Chip.{Keeps};
 ghost use Rattle.machine_contract.specs.Opening.{FlashFound};
 ghost use Rattle.machine_contract.specs.Ranges.{IsEvent, IsJob, IsQuiet};
@@ -14,7 +15,7 @@ ghost use Rattle.mesh_machine.specs.Handling.{IsKnownFor};
 ghost use Rattle.mesh_world.specs.World.{World};
 ghost use Rattle.record_types.specs.declared.records.StoreRecord.{StoreRecord};
 ghost use Rattle.run_definitions.specs.Order.{is_outside};
-ghost use Rattle.seq_word.specs.Seen.{last_word, went_to};
+ghost use Rattle.seq_word.specs.Seen.{IsFoundBy, last_word, went_to};
 ghost use Rattle.seq_word.specs.Word.{seq_of};
 ghost use Rattle.store_world.specs.Standing.{IsWorldOf};
 
@@ -83,6 +84,7 @@ impl MeshState {
         ensures jobs { IfOk result (λ r. All (IsJob event.now) r.jobs) }
         ensures quiet { is_outside event.now ≡ false → IfOk result (λ r. All IsQuiet r.jobs) }
         ensures unread { (F.chip flash.new).reads ≡ (F.chip flash.old).reads }
+        ensures once { FailsOnce (F.chip flash.old) (F.chip flash.new) }
         ensures steps { (w : World) → IsWorldOf w self.old.reserve.store.persist self.old.reserve.store.persist.mark
             → IfOk result
             (λ r. HasStepped w self.old.reserve.store.persist self.new.reserve.store.persist event.now r.answer) }
@@ -156,16 +158,22 @@ impl MeshState {
         &mut self,
         n: &Numbers,
         flash: &mut F,
+        d: &mut Drawer,
         dry: Dry,
     ) -> Result<u64, Stop>
         requires made { (shown self.old).which ≡ n.now.which }
-        requires reached { dry.which ≡ n.now.which }
+        requires drawer_made { d.old.which ≡ n.now.which }
+        requires found { IsFoundBy dry d.old }
         requires seq { seq_of dry.mark < 2 ^ 24 }
 
         ensures filled { dry.mark ≡ (shown self.old).mark
             → OnOk result
             (shown self.new
             ≡ record (shown self.old) { fills = (shown self.old).fills + 1; mark = dry.mark + 256 }) }
+        ensures owes { dry.mark ≡ (shown self.old).mark
+            → OnOk result (d.new ≡ record d.old { owes = max d.old.owes (dry.next + 1) }) }
+        ensures stays { dry.mark ≢ (shown self.old).mark → d.new ≡ d.old }
+        ensures failed { OnErr result (d.new ≡ d.old) }
         ensures nothing { dry.mark ≢ (shown self.old).mark → (shown self.old).closed ≡ false
             → (result ≡ Ok (shown self.old).mark) × (shown self.new ≡ shown self.old) × (flash.new ≡ flash.old) }
         ensures value { IfOk result (λ mark. mark ≡ (shown self.new).mark) }
@@ -177,6 +185,7 @@ impl MeshState {
         ensures closed { (shown self.old).closed ≡ true → result ≡ Err Stop.Closed }
         ensures memory { result ≢ Err Stop.Memory }
         ensures unread { (F.chip flash.new).reads ≡ (F.chip flash.old).reads }
+        ensures once { FailsOnce (F.chip flash.old) (F.chip flash.new) }
         ensures refused { IfErr result
             (IsRefused F.chip Hand.OfRefill (shown self.old) (shown self.new) flash.old flash.new) }
         ensures kept { (first : FlashFound) (over : List StoreRecord) → Stands first (F.chip flash.old) over self.old
@@ -194,7 +203,7 @@ impl MeshState {
         // They do nothing when they run: the proof uses what they say.
         ties_law();
         node_models_law();
-        match self.parts.reserve.refill(n, flash, dry) {
+        match self.parts.reserve.refill(n, flash, d, dry) {
             Ok(mark) => {
                 self.fills += 1;
                 Ok(mark)

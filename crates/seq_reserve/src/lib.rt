@@ -51,8 +51,8 @@
 //!    (`advanced`; `noted` of `advance`, `all` of `close`).
 //! 7. **Lost**: below the mark that the next life opens at, and not sealed. A power cut: the counter then begins there (`opened`), and what is
 //!    drawn from then on is at or above it (`since` of `close`). So what was drawn before the cut isn't drawn again either. Those below the
-//!    published mark that hadn't been drawn are at most 256, of words that are closed (`near` of `close`); where the cut fell in a Numbers
-//!    record, those that it reserves may be lost too (1).
+//!    published mark that hadn't been drawn are fewer than 256, of words that are closed and owed no draw (`paid` of `close`); where the cut fell
+//!    in a Numbers record, those that it reserves may be lost too (1).
 //!
 //! SEQ 2^24 is no number: a mark may have it, and from a counter that stands there nothing is drawn (`unspent` of `draw`).
 #![tactic(auto)]

@@ -1,7 +1,7 @@
 //! The store and the seat that moves the mark.
 #![tactic(auto)]
 
-ghost use Rattle.std.specs.Prelude.{◌≡◌, ◌≢◌, ℕ, ◌+◌, ◌*◌, ◌^◌, ◌<◌, ◌≤◌, List, [], ◌∷◌, ◌++◌, true, false, Ok, Err, IfOk, OnOk, OnErr};
+ghost use Rattle.std.specs.Prelude.{◌≡◌, ◌≢◌, ℕ, ◌+◌, ◌*◌, ◌^◌, ◌<◌, ◌≤◌, List, [], ◌∷◌, ◌++◌, true, false, Ok, Err, IfOk, OnOk, OnErr, max};
 ghost use Rattle.flash_model.specs.Chip.{count_of};
 ghost use Rattle.mesh_base.specs.IvState.{HasTransmit, transmit_of};
 ghost use Rattle.mesh_world.specs.World.{World};
@@ -11,7 +11,7 @@ ghost use Rattle.node_store.specs.Tie.{IsPut, IsStoreOf};
 ghost use Rattle.node_store.specs.Writing.{CostsCalls, CutLeaves, FailsAtFlash, LeavesFlash, OnlyAnswers, Puts};
 ghost use Rattle.record_types.specs.declared.records.StoreRecord.{StoreRecord};
 ghost use Rattle.seq_reserve.specs.Reserving.{first_word, IsDurable, IsPublished, moving, refilling};
-ghost use Rattle.seq_word.specs.Seen.{fresh, went_to};
+ghost use Rattle.seq_word.specs.Seen.{IsFoundBy, fresh, went_to};
 ghost use Rattle.seq_word.specs.Word.{seq_of};
 ghost use Rattle.store_definitions.specs.Numbers.{fill_of, moved};
 ghost use Rattle.store_definitions.specs.Wear.{CostsAndUses, CostsAtMost};
@@ -67,7 +67,8 @@ impl Reserve {
     /// IV state, and is published only then (`filled`, `durable`). Where it is another mark a refill came between, and nothing changes
     /// (`nothing`). It answers the keeper's mark (`value`).
     ///
-    /// It takes what the draw answered: so none is stored without one, and the mark is at most 256 above the counter (`near` of `close`).
+    /// It takes what the draw answered: so none is stored without one, and the mark is at most 256 above the counter (`near` of `close`). The seat
+    /// that drew owes a draw once the mark is published (`owes`): so the mark is less than 256 above, where no seat owes one (`paid` of `close`).
     ///
     /// # Errors
     ///
@@ -80,7 +81,7 @@ impl Reserve {
     ///
     /// - `made`: `n` was made with this reserve, by `start`; each call keeps it so (`made`).
     /// - `published`: the keeper's mark is the stored one. `start` gives it, and each call keeps it (`published`).
-    /// - `reached`: `dry` is of a draw at `n`.
+    /// - `drawer_made`, `found`: `dry` is of the last draw of this seat, at `n`.
     /// - `unspent`: SEQ of its mark is below 2^24; else the IV Index has no number left. A mark that a draw told may have that SEQ where it was
     ///   seen before the counter moved on: don't refill then, but draw again, as `draw` of `node_bearer` does.
     ///
@@ -89,10 +90,12 @@ impl Reserve {
         &mut self,
         n: &Numbers,
         flash: &mut F,
+        d: &mut Drawer,
         dry: Dry,
     ) -> Result<u64, KeepFault>
         requires made { self.old.keeper.which ≡ n.now.which }
-        requires reached { dry.which ≡ n.now.which }
+        requires drawer_made { d.old.which ≡ n.now.which }
+        requires found { IsFoundBy dry d.old }
         requires published { IsPublished self.old.store self.old.keeper }
         requires unspent { seq_of dry.mark < 2 ^ 24 }
 
@@ -107,6 +110,10 @@ impl Reserve {
             ((self.new.keeper ≡ self.old.keeper) × (self.new.store.persist ≡ self.old.store.persist)) }
         ensures filled { dry.mark ≡ self.old.keeper.mark
             → OnOk result (self.new.keeper ≡ record self.old.keeper { mark = dry.mark + 256 }) }
+        ensures owes { dry.mark ≡ self.old.keeper.mark
+            → OnOk result (d.new ≡ record d.old { owes = max d.old.owes (dry.next + 1) }) }
+        ensures stays { dry.mark ≢ self.old.keeper.mark → d.new ≡ d.old }
+        ensures failed { OnErr result (d.new ≡ d.old) }
         ensures puts { dry.mark ≡ self.old.keeper.mark
             → OnOk result
             (Puts (fill_of (config_in self.old.store.persist) ∷ []) (F.chip flash.old) (F.chip flash.new) self.old.store
@@ -142,7 +149,7 @@ impl Reserve {
         let item = fill_record(self.store.persist());
         put_numbers(&mut self.store, flash, &item)?;
         let mark = self.store.persist().mark;
-        n.publish(&mut self.keeper, dry);
+        n.publish(&mut self.keeper, d, dry);
         Ok(mark)
     }
 

@@ -1,10 +1,11 @@
 -- Each step keeps the running rule.
 use Rattle.std.proofs.Common.{◌≡◌, ◌≢◌, ◌⊎◌, ℕ, zero, suc, ◌+◌, ◌-◌, ◌%◌, ◌<◌, ◌≤◌, Bool, true, false, true≢false, List, [], ◌∷◌, ◌++◌, set, refl, sym, ap, ◌∙◌, subst, ⊎_elim, inl, inr, arith}
-use Rattle.std.specs.Prelude.{◌==◌, ◌||◌, ◌&&◌, nat_le, nat_lt, ◌^◌, cond, max, slice_index, All, map, sum_by}
+use Rattle.std.specs.Prelude.{◌==◌, ◌||◌, ◌&&◌, nat_le, nat_lt, ◌^◌, cond, max, slice_index, All, map, fold, sum_by}
 use Rattle.std.specs.List.{Contains}
 use Rattle.std.proofs.lemmas.List.{append-nil}
-use Rattle.std.proofs.lemmas.List.Sums.{sum_by-append, sum_by_push}
+use Rattle.std.proofs.lemmas.List.Sums.{sum_by-append, sum_by_push, fold-append}
 use Rattle.std.proofs.lemmas.List.Elements.{All-append, All-push, All-nil, All-tail, All-map, All-weaker, All-contains}
+use Rattle.std.proofs.lemmas.Bool.Decides.{nat_tests}
 use mathlib.Core.Option.{some, none, some-ne-none, some-injective}
 use native.Mathlib.Decide.{dec_le, ℕ_discrete}
 use prog.Atomic.{either}
@@ -15,8 +16,8 @@ use Rattle.seq_word.specs.declared.looks.Look.{Look}
 use Rattle.seq_word.specs.declared.looks.Look.TheVariants as saw
 use Rattle.seq_word.specs.declared.rule.View.{View}
 use Rattle.seq_word.specs.Word.{IsWord, seq_of}
-use Rattle.seq_word.specs.Rule.{times, once_below, passed_over, gone, drawn_here, IsReached, HasReached, IsEndOf, IsOver, IsPast, IsWithin, Fits, Stands, Ruled, nobody, first_keeper, without_parts, first_drawer, part_of, keeping, split_off, witness_of, moves_of, both, seeing, drawing, publishing, lifting, advancing, IsLastSeen, OnlyKnows, SeesMark, SeesNext, Draws, Publishes, Lifts, Advances, DrawnOnce}
-use Rattle.seq_word.proofs.Sums.{sum_by_at, share_of_one, share_of_two, share_alone, part_of-one, part_of-none, once_below-le, once_below_more, once_below-max, same-one, times_contains}
+use Rattle.seq_word.specs.Rule.{times, once_below, passed_over, gone, drawn_here, IsReached, HasReached, IsEndOf, IsOver, IsPast, IsWithin, Fits, Stands, Ruled, owes_above, IsPromised, owed_behind, next_above, above_last, nobody, first_keeper, without_parts, first_drawer, part_of, keeping, split_off, owing, promise_of, mark_of, moves_of, both, seeing, drawing, publishing, lifting, advancing, IsLastSeen, SeesMark, SeesNext, Draws, Publishes, Lifts, Advances, DrawnOnce}
+use Rattle.seq_word.proofs.Sums.{sum_by_at, share_of_one, share_of_two, share_alone, part_of-one, part_of-none, once_below-le, once_below_more, once_below-max, once_below-none, once_below-above, once_below-behind, once_below-greater, same-one, times_contains}
 
 -- the last two of a list
 two_last : {X : Type 0} (P : X → Type 0) (xs : List X) (a b : X) → All P (xs ++ a ∷ b ∷ []) → P a × P b
@@ -40,8 +41,12 @@ fits_later o n m k n' m' k' by v h up up' keeper = record {
   advances = λ i d l. omega (arith, h.advances i d l);
   keeps = λ is. let was = h.keeps is in let now = keeper was.0 in (now.0, was.1 ∙ now.1);
   near = λ is still. let now = keeper (h.keeps is).0 in omega (arith, h.near is still, now.1);
+  owes = omega (arith, h.owes);
+  promised = omega (arith, h.promised);
+  marked = omega (arith, h.marked);
   plain = h.plain;
   idle = h.idle;
+  free = h.free;
 }
 
 abbrev parts_of : View → ℕ
@@ -61,14 +66,26 @@ looks_later o views views' more xs h = All-weaker (HasReached o views) (HasReach
 more_drawn : (views : List View) (id : ℕ) (v w : View) → get_elem? views id ≡ some v → ((x : ℕ) → times x v.drawn ≤ times x w.drawn) → (x : ℕ) → sum_by (drawn_here x) views ≤ sum_by (drawn_here x) (set views id w)
 more_drawn views id v w at grows x = omega (arith, sum_by_at (drawn_here x) views id v w at, grows x)
 
+-- what was promised stays so where the counter rises, or as much is owed
+promised_later : (n n' : ℕ) (views views' : List View) (word : ℕ) → word ≤ n + 1 → n ≤ n' → (n' ≡ n → 1 ≤ sum_by (owes_above n) views → 1 ≤ sum_by (owes_above n) views') → IsPromised n views word → IsPromised n' views' word
+promised_later n n' views views' word most up pays h = ⊎_elim (λ reached. inl (omega (arith, reached, up))) (λ owed. rises owed (ℕ_discrete n' n)) h where
+  rises : 1 ≤ sum_by (owes_above n) views → Dec (n' ≡ n) → IsPromised n' views' word
+  rises owed (yes same) = inr (subst (λ c. 1 ≤ sum_by (owes_above c) views') (sym same) (pays same owed))
+  rises owed (no more) = inl (omega (arith, most, up, more))
+
+-- so where one seat's view changes
+still_owed : (n : ℕ) (views : List View) (id : ℕ) (v w : View) → get_elem? views id ≡ some v → owes_above n v ≤ owes_above n w → 1 ≤ sum_by (owes_above n) views → 1 ≤ sum_by (owes_above n) (set views id w)
+still_owed n views id v w at pays owed = omega (arith, sum_by_at (owes_above n) views id v w at, pays, owed)
+
 -- One view changes, and the words rise or stay
 moves : (o n m k n' m' k' : ℕ) (views : List View) (id : ℕ) (v w : View) → Stands o n m k views → get_elem? views id ≡ some v
     → IsWord n' → IsWord m' → n ≤ n' → m ≤ m' → n' ≤ m' → ((j : ℕ) → j ≢ id → j ≡ k → (j ≡ k') × (m ≡ m'))
     → ((x : ℕ) → gone x w + once_below x n ≡ gone x v + once_below x n')
     → w.draws ≡ v.draws → w.parts ≡ v.parts
+    → (n' ≡ n → owes_above n v ≤ owes_above n w) → (w.promised ≡ v.promised) ⊎ (w.promised ≤ n')
     → ((x : ℕ) → times x v.drawn ≤ times x w.drawn) → IsReached o (set views id w) n' → All (HasReached o (set views id w)) w.looks
     → Fits o n' m' k' id w → Stands o n' m' k' (set views id w)
-moves o n m k n' m' k' views id v w h at nw mw up up' order keeper goes same_kind same_parts grows reached looked fits = record {
+moves o n m k n' m' k' views id v w h at nw mw up up' order keeper goes same_kind same_parts pays own grows reached looked fits = record {
   counter_word = nw;
   mark_word = mw;
   in_order = order;
@@ -78,6 +95,12 @@ moves o n m k n' m' k' views id v w h at nw mw up up' order keeper goes same_kin
       ⊎_elim
       (λ (t : (j ≡ id) × (w ≡ u)). subst (λ (y : ℕ × View). Fits o n' m' k' y.0 y.1) (λ i. (sym t.0 i, t.1 i)) fits)
       (λ (t : (j ≢ id) × (get_elem? views j ≡ some u)). fits_later o n m k n' m' k' j u (h.each j u t.1) up up' (keeper j t.0))
+      (at_set views id j w u e);
+  promises = λ j u e.
+      ⊎_elim
+      (λ (t : (j ≡ id) × (w ≡ u)). subst (λ (y : View). IsPromised n' (set views id w) y.promised) t.1
+      (⊎_elim (λ same. subst (IsPromised n' (set views id w)) (sym same) (kept v (h.each id v at) (h.promises id v at))) (λ there. inl there) own))
+      (λ (t : (j ≢ id) × (get_elem? views j ≡ some u)). kept u (h.each j u t.1) (h.promises j u t.1))
       (at_set views id j w u e);
   reached = reached;
   found = λ j u e.
@@ -98,6 +121,9 @@ moves o n m k n' m' k' views id v w h at nw mw up up' order keeper goes same_kin
     total : sum_by parts_of (set views id w) ≡ sum_by parts_of views
     total = omega (arith, sum_by_at parts_of views id v w at, same_parts)
 
+    kept : {by : ℕ} (u : View) → Fits o n m k by u → IsPromised n views u.promised → IsPromised n' (set views id w) u.promised
+    kept u its was = promised_later n n' views (set views id w) u.promised its.promised up (λ same. still_owed n views id v w at (pays same)) was
+
 module _ {S : Type 0} (o slots id : ℕ) (me : Me S View) (f : ℕ → ℕ) (then : ℕ → Me S View → Type 0) where
   -- a step on the counter
   goes_counter : ((n m k : ℕ) (views : List View) → Stands o n m k views → get_elem? views id ≡ some me.0 → (w : View) × Stands o (f n) m k (set views id w) × then n (w, me.1))
@@ -115,6 +141,19 @@ module _ {S : Type 0} (o slots id : ℕ) (me : Me S View) (f : ℕ → ℕ) (the
       let P : List ℕ → Type 0 = λ ws. (w : View) × (a : Act S) × Valid s.homes me.1 a × Ruled o (stepped (record { words = ws; homes = s.homes; views = s.views }) 1 (f (slice_index ws 1)) id me.1 w a) × then (slice_index ws 1) (w, carried_after me.1 a) in
       subst P (sym h.words) (g.0, keeps, tt, record { next = h.next; mark = f h.mark; keeper = h.keeper; words = refl; stands = g.1 }, g.2)
 
+-- a look leaves no more owed
+owed_less : (look : Look) (owes : ℕ) → owed_behind look owes ≤ owes
+owed_less (saw.Mark x) owes = omega arith
+owed_less (saw.Counter x) owes = grind (arith, nat_tests)
+
+owed_none : (look : Look) (owes : ℕ) → owes ≡ 0 → owed_behind look owes ≡ 0
+owed_none look owes e = omega (arith, owed_less look owes, e)
+
+-- nor less, where the counter isn't above that
+owed_still : (n m : ℕ) (look : Look) (owes : ℕ) → IsWithin n m look → once_below n owes ≤ once_below n (owed_behind look owes)
+owed_still n m (saw.Mark x) owes within = omega arith
+owed_still n m (saw.Counter x) owes within = let le : x ≤ n = within in once_below-behind x n owes le
+
 fits_seeing : (o n m k by : ℕ) (v : View) (look : Look) → IsWithin n m look → Fits o n m k by v → Fits o n m k by (seeing v look)
 fits_seeing o n m k by v look within fits = record {
   since = fits.since;
@@ -127,8 +166,12 @@ fits_seeing o n m k by v look within fits = record {
   advances = fits.advances;
   keeps = fits.keeps;
   near = fits.near;
+  owes = omega (arith, fits.owes, owed_less look v.owes);
+  promised = fits.promised;
+  marked = fits.marked;
   plain = fits.plain;
   idle = fits.idle;
+  free = λ not. owed_none look v.owes (fits.free not);
 }
 
 -- what the counter is is past what looks found there
@@ -143,6 +186,7 @@ over o n m k by v fits = record {
   looks = All-weaker (IsWithin n m) (IsPast n) (past n m) v.looks fits.looks;
   known = All-weaker (IsWithin n m) (IsPast n) (past n m) v.known fits.known;
   informed = fits.informed;
+  owes = fits.owes;
 }
 
 -- a look at either word
@@ -151,6 +195,8 @@ looks o n m k views id v look h at within seen =
     let grows : (x : ℕ) → times x v.drawn ≤ times x (seeing v look).drawn = λ x. omega arith in
     let more = more_drawn views id v (seeing v look) at grows in
     moves o n m k n m k views id v (seeing v look) h at h.counter_word h.mark_word (omega arith) (omega arith) h.in_order (λ j apart e. (e, refl)) (λ x. refl) refl refl
+    (λ _. owed_still n m look v.owes within)
+    (inl refl)
     grows
     (reached_later o views (set views id (seeing v look)) n more h.reached)
     (looks_later o views (set views id (seeing v look)) more (v.looks ++ look ∷ []) (All-push (HasReached o views) v.looks look (h.found id v at) seen))
@@ -159,7 +205,7 @@ looks o n m k views id v look h at within seen =
 pub sees_mark : {S : Type 0} (o slots id : ℕ) (me : Me S View) → Allows (Ruled o) slots id me 1 (λ n. n) (SeesMark (step slots 1 0 0 none) me)
 sees_mark {S} o slots id me =
     goes_mark o slots id me (λ n. n) (SeesMark (step slots 1 0 0 none) me)
-    (λ n m k views h at. let same : m ≤ m = omega arith in (seeing me.0 (saw.Mark m), looks o n m k views id me.0 (saw.Mark m) h at same tt, refl))
+    (λ n m k views h at. let same : m ≤ m = omega arith in (seeing me.0 (saw.Mark m), looks o n m k views id me.0 (saw.Mark m) h at same tt, (refl, (h.each id me.0 at).marked)))
 
 pub sees_next : {S : Type 0} (o slots id : ℕ) (me : Me S View) → Allows (Ruled o) slots id me 0 (λ n. n) (SeesNext (step slots 0 0 0 none) me)
 sees_next {S} o slots id me =
@@ -179,6 +225,8 @@ drawn_now o n m k views id v h at is below unspent =
     (λ x. omega (arith, sum_by_push (λ (y : ℕ). cond (y == x) 1 0) v.drawn n, once_below_more x n))
     refl
     refl
+    (λ same. absurd (omega (arith, same)))
+    (inl refl)
     grows
     (λ _. inr (subst (λ k. 1 ≤ sum_by (drawn_here k) views') before (omega (arith, sum_by_at (drawn_here n) views id v (drawing v n (n + 1)) at, pushed n, same-one n))))
     (looks_later o views views' (more_drawn views id v (drawing v n (n + 1)) at grows) v.looks (h.found id v at))
@@ -193,8 +241,12 @@ drawn_now o n m k views id v h at is below unspent =
       advances = later.advances;
       keeps = later.keeps;
       near = later.near;
+      owes = omega arith;
+      promised = later.promised;
+      marked = later.marked;
       plain = later.plain;
       idle = λ off. absurd (true≢false (sym is ∙ off));
+      free = λ _. refl;
     })
 
 -- a draw from a number that the seat saw below the mark
@@ -220,9 +272,9 @@ draws {S} o slots id me earlier old mark is last below unspent =
     same : (n : ℕ) → n ≤ n
     same n = omega arith
 
--- the keeper's mark goes up, and it is still or moves then; where it is still the mark is near the counter
+-- the keeper's mark goes up, and it is still or moves then; where it is still the mark is near what it was promised
 marks : (o n m k : ℕ) (views : List View) (id : ℕ) (v : View) (mark : ℕ) (moving : Bool) → Stands o n m k views → get_elem? views id ≡ some v → v.keeps ≡ true → v.mark ≤ mark → IsWord mark
-    → (moving ≡ false → mark ≤ n + 256) → Stands o n mark k (set views id (record v { mark = mark; lifted = moving }))
+    → (moving ≡ false → mark ≤ v.promised + 255) → Stands o n mark k (set views id (record v { mark = mark; lifted = moving }))
 marks o n m k views id v mark moving h at is up word near =
     let fits = h.each id v at in
     let keeper = fits.keeps is in
@@ -231,6 +283,8 @@ marks o n m k views id v mark moving h at is up word near =
     let grows : (x : ℕ) → times x v.drawn ≤ times x w.drawn = λ x. omega arith in
     let more = more_drawn views id v w at grows in
     moves o n m k n mark k views id v w h at h.counter_word word (omega arith) rises (omega (arith, h.in_order)) (λ j apart e. absurd (apart (e ∙ sym keeper.0))) (λ x. refl) refl refl
+    (λ _. omega arith)
+    (inl refl)
     grows
     (reached_later o views (set views id w) n more h.reached)
     (looks_later o views (set views id w) more v.looks (h.found id v at))
@@ -245,18 +299,22 @@ marks o n m k views id v mark moving h at is up word near =
       advances = fits.advances;
       keeps = λ _. (keeper.0, refl);
       near = λ _ still. near still;
+      owes = fits.owes;
+      promised = fits.promised;
+      marked = omega (arith, fits.marked, rises);
       plain = fits.plain;
       idle = fits.idle;
+      free = fits.free;
     })
 
--- the keeper publishes a higher mark, which is near a word that a look found in the counter
-pub publishes : {S : Type 0} (o slots id : ℕ) (me : Me S View) (mark seen : ℕ) → me.0.keeps ≡ true → me.0.mark ≤ mark → IsWord mark → Contains me.0.known (saw.Counter seen) → mark ≤ seen + 256
+-- the keeper publishes a higher mark, which is near what it was promised
+pub publishes : {S : Type 0} (o slots id : ℕ) (me : Me S View) (mark : ℕ) → me.0.keeps ≡ true → me.0.mark ≤ mark → IsWord mark → mark ≤ me.0.promised + 255
     → Allows (Ruled o) slots id me 1 (λ _. mark) (λ _. Publishes (step slots 1 mark 0 none) me mark)
-publishes {S} o slots id me mark seen is up word knows near =
+publishes {S} o slots id me mark is up word near =
     goes_mark o slots id me (λ _. mark) (λ _. Publishes (step slots 1 mark 0 none) me mark)
     (λ n m k views h at.
-    let counted : seen ≤ n = All-contains (IsWithin n m) me.0.known (saw.Counter seen) (h.each id me.0 at).known knows in
-    (publishing me.0 mark, marks o n m k views id me.0 mark me.0.lifted h at is up word (λ _. omega (arith, counted)), refl))
+    let fits = h.each id me.0 at in
+    (publishing me.0 mark, marks o n m k views id me.0 mark me.0.lifted h at is up word (λ _. near), (refl, omega (arith, fits.promised, h.in_order, (fits.keeps is).1))))
 
 -- the keeper's mark goes to where the counter is to go to
 pub lifts : {S : Type 0} (o slots id : ℕ) (me : Me S View) (mark : ℕ) → me.0.keeps ≡ true → me.0.mark ≤ mark → IsWord mark
@@ -282,6 +340,8 @@ advances {S} o slots id me to is within word first =
           (λ x. omega (arith, sum_by_push (λ (a : ℕ × ℕ). cond (nat_le a.0 x && nat_lt x a.1) 1 0) v.advances (n, to), once_below-max x n to))
           refl
           refl
+          (λ _. omega arith)
+          (inr (omega arith))
           (grows v n)
           (⊎_elim
           (λ (e : n' ≡ n). subst (IsReached o (set views id (advancing v n to))) (sym e) (reached_later o views (set views id (advancing v n to)) n (more_drawn views id v (advancing v n to) at (grows v n)) h.reached))
@@ -298,9 +358,13 @@ advances {S} o slots id me to is within word first =
             informed = later.informed;
             advances = All-push (λ a. a.1 ≤ n') v.advances (n, to) later.advances (omega arith);
             keeps = later.keeps;
-            near = λ _ _. omega (arith, keeper.1);
+            near = λ _ _. omega (arith, keeper.1, within);
+            owes = later.owes;
+            promised = omega arith;
+            marked = later.marked;
             plain = λ not. absurd (true≢false (sym is ∙ not));
             idle = later.idle;
+            free = later.free;
           }),
       refl,
     ))
@@ -330,8 +394,12 @@ fits_nobody o n m k by = record {
   advances = All-nil (λ a. a.1 ≤ n);
   keeps = λ e. absurd (off e);
   near = λ e. absurd (off e);
+  owes = omega arith;
+  promised = omega arith;
+  marked = omega arith;
   plain = λ _. refl;
   idle = λ _. refl;
+  free = λ _. refl;
 }
 
 -- the words at the start, with the keeper's seat
@@ -341,7 +409,7 @@ begins {S} first word = record {
   mark = first;
   keeper = 0;
   words = refl;
-  stands = record { counter_word = word; mark_word = word; in_order = omega arith; opening = omega arith; once = λ x. omega arith; each = first_only; reached = λ _. inl refl; found = none_seen; parts = omega arith; lost = none_draws };
+  stands = record { counter_word = word; mark_word = word; in_order = omega arith; opening = omega arith; once = λ x. omega arith; each = first_only; promises = first_promise; reached = λ _. inl refl; found = none_seen; parts = omega arith; lost = none_draws };
 }
   where
     keeper_fits : Fits first first first 0 0 (first_keeper first)
@@ -356,13 +424,21 @@ begins {S} first word = record {
       advances = none.advances;
       keeps = λ _. (refl, refl);
       near = λ _ _. omega arith;
+      owes = none.owes;
+      promised = omega arith;
+      marked = none.marked;
       plain = λ _. refl;
       idle = λ _. refl;
+      free = λ _. refl;
     }
 
     first_only : (by : ℕ) (v : View) → get_elem? (first_keeper first ∷ []) by ≡ some v → Fits first first first 0 by v
     first_only zero v e = subst (Fits first first first 0 0) (some-injective _ _ e) keeper_fits
     first_only (suc by) v e = absurd (some-ne-none v (sym e))
+
+    first_promise : (by : ℕ) (v : View) → get_elem? (first_keeper first ∷ []) by ≡ some v → IsPromised first (first_keeper first ∷ []) v.promised
+    first_promise zero v e = subst (λ (u : View). IsPromised first (first_keeper first ∷ []) u.promised) (some-injective _ _ e) (inl (omega arith))
+    first_promise (suc by) v e = absurd (some-ne-none v (sym e))
 
     none_seen : (by : ℕ) (v : View) → get_elem? (first_keeper first ∷ []) by ≡ some v → All (HasReached first (first_keeper first ∷ [])) v.looks
     none_seen zero v e = subst (λ (u : View). All (HasReached first (first_keeper first ∷ [])) u.looks) (some-injective _ _ e) (All-nil (HasReached first (first_keeper first ∷ [])))
@@ -376,11 +452,12 @@ begins {S} first word = record {
 cuts : (o n m k : ℕ) (views : List View) (id : ℕ) (v u w : View) → Stands o n m k views → get_elem? views id ≡ some v
     → ((x : ℕ) → gone x u + gone x w ≡ gone x v) → Fits o n m k id u → ((by : ℕ) → Fits o n m k by w)
     → u.drawn ≡ v.drawn → u.looks ≡ v.looks → w.looks ≡ []
+    → v.owes ≤ u.owes → u.promised ≡ v.promised → w.promised ≤ max v.promised u.owes
     → u.parts + w.parts ≤ v.parts
     → (u.draws ≡ true → u.parts ≡ 0 → sum_by parts_of views + (u.parts + w.parts) < 1024 + v.parts)
     → (w.draws ≡ true → w.parts ≡ 0 → sum_by parts_of views + (u.parts + w.parts) < 1024 + v.parts)
     → Stands o n m k (set views id u ++ w ∷ [])
-cuts o n m k views id v u w h at goes left_fits right_fits same_drawn same_looks no_looks within left_lost right_lost = record {
+cuts o n m k views id v u w h at goes left_fits right_fits same_drawn same_looks no_looks more_owed same_promise promise within left_lost right_lost = record {
   counter_word = h.counter_word;
   mark_word = h.mark_word;
   in_order = h.in_order;
@@ -393,6 +470,14 @@ cuts o n m k views id v u w h at goes left_fits right_fits same_drawn same_looks
       (λ (t : (by ≢ id) × (get_elem? views by ≡ some z)). h.each by z t.1)
       (at_set views id by u z was))
       (λ new. subst (Fits o n m k by) new (right_fits by))
+      (at_snoc (set views id u) w z by e);
+  promises = λ by z e.
+      ⊎_elim
+      (λ was. ⊎_elim
+      (λ (t : (by ≡ id) × (u ≡ z)). subst (λ (y : View). IsPromised n views' y.promised) t.1 (subst (IsPromised n views') (sym same_promise) mine))
+      (λ (t : (by ≢ id) × (get_elem? views by ≡ some z)). kept z (h.each by z t.1) (h.promises by z t.1))
+      (at_set views id by u z was))
+      (λ new. subst (λ (y : View). IsPromised n views' y.promised) new theirs)
       (at_snoc (set views id u) w z by e);
   reached = reached_later o views (set views id u ++ w ∷ []) n more h.reached;
   found = λ by z e. looks_later o views (set views id u ++ w ∷ []) more z.looks
@@ -419,6 +504,25 @@ cuts o n m k views id v u w h at goes left_fits right_fits same_drawn same_looks
     more : (x : ℕ) → sum_by (drawn_here x) views ≤ sum_by (drawn_here x) (set views id u ++ w ∷ [])
     more x = omega (arith, sum_by_at (drawn_here x) views id v u at, sum_by_push (drawn_here x) (set views id u) w, ap (times x) same_drawn)
 
+    views' : List View
+    views' = set views id u ++ w ∷ []
+
+    owed_sum : sum_by (owes_above n) views' + owes_above n v ≡ sum_by (owes_above n) views + owes_above n u + owes_above n w
+    owed_sum = omega (arith, sum_by_at (owes_above n) views id v u at, sum_by_push (owes_above n) (set views id u) w)
+
+    kept : {by : ℕ} (z : View) → Fits o n m k by z → IsPromised n views z.promised → IsPromised n views' z.promised
+    kept z its was = promised_later n n views views' z.promised its.promised (omega arith) (λ _ owed. omega (arith, owed, owed_sum, once_below-greater n v.owes u.owes more_owed)) was
+
+    mine : IsPromised n views' v.promised
+    mine = kept v (h.each id v at) (h.promises id v at)
+
+    owned : Dec (u.owes ≤ n) → IsPromised n views' (max v.promised u.owes)
+    owned (yes reached) = ⊎_elim (λ there. inl (omega (arith, there, reached))) (λ owed. inr owed) mine
+    owned (no above) = inr (omega (arith, owed_sum, once_below-above n u.owes (omega (arith, above)), sum_by_at (owes_above n) views id v u at, share_of_one (owes_above n) views id v at))
+
+    theirs : IsPromised n views' w.promised
+    theirs = ⊎_elim (λ there. inl (omega (arith, there, promise))) (λ owed. inr owed) (owned (dec_le u.owes n))
+
     total : sum_by parts_of (set views id u ++ w ∷ []) + v.parts ≡ sum_by parts_of views + (u.parts + w.parts)
     total = omega (arith, sum_by_at parts_of views id v u at, sum_by_push parts_of (set views id u) w)
 
@@ -438,13 +542,17 @@ fits_drawer o n m k by parts noted known below within =
       advances = none.advances;
       keeps = none.keeps;
       near = none.near;
+      owes = none.owes;
+      promised = none.promised;
+      marked = none.marked;
       plain = λ _. refl;
       idle = λ _. refl;
+      free = λ _. refl;
     }
 
--- a seat that knows looks alone
-fits_witness : (o n m k by : ℕ) (known : List Look) → All (IsWithin n m) known → Fits o n m k by (record nobody { known = known })
-fits_witness o n m k by known within =
+-- a seat that was told of a promise, or of a mark, alone
+fits_promise : (o n m k by promised marked : ℕ) → promised ≤ n + 1 → marked ≤ m → Fits o n m k by (record nobody { promised = promised; marked = marked })
+fits_promise o n m k by promised marked most below =
     let none = fits_nobody o n m k by in
     record {
       since = none.since;
@@ -452,13 +560,17 @@ fits_witness o n m k by known within =
       raised = none.raised;
       noted = none.noted;
       looks = none.looks;
-      known = within;
+      known = none.known;
       informed = none.informed;
       advances = none.advances;
       keeps = none.keeps;
-      near = none.near;
+      near = λ e. absurd (off e);
+      owes = none.owes;
+      promised = most;
+      marked = below;
       plain = none.plain;
       idle = none.idle;
+      free = none.free;
     }
 
 -- a seat that was told where the counter was moved to, alone
@@ -476,8 +588,12 @@ fits_told o n m k by advances moved =
       advances = none.advances;
       keeps = none.keeps;
       near = none.near;
+      owes = none.owes;
+      promised = none.promised;
+      marked = none.marked;
       plain = none.plain;
       idle = none.idle;
+      free = none.free;
     }
 
 -- a view with other parts
@@ -493,9 +609,44 @@ fits_parts o n m k by parts v fits = record {
   advances = fits.advances;
   keeps = fits.keeps;
   near = fits.near;
+  owes = fits.owes;
+  promised = fits.promised;
+  marked = fits.marked;
   plain = fits.plain;
   idle = fits.idle;
+  free = fits.free;
 }
+
+-- a view that owes more
+fits_owing : (o n m k by owes : ℕ) (v : View) → v.draws ≡ true → owes ≤ n + 1 → Fits o n m k by v → Fits o n m k by (record v { owes = owes })
+fits_owing o n m k by owes v is most fits = record {
+  since = fits.since;
+  drawn = fits.drawn;
+  raised = fits.raised;
+  noted = fits.noted;
+  looks = fits.looks;
+  known = fits.known;
+  informed = fits.informed;
+  advances = fits.advances;
+  keeps = fits.keeps;
+  near = fits.near;
+  owes = most;
+  promised = fits.promised;
+  marked = fits.marked;
+  plain = fits.plain;
+  idle = fits.idle;
+  free = λ not. absurd (true≢false (sym is ∙ not));
+}
+
+-- what a look found last is at most the counter
+last_within : (n m : ℕ) (xs : List Look) (word : ℕ) → word ≤ n + 1 → All (IsWithin n m) xs → fold next_above word xs ≤ n + 1
+last_within n m [] word h all = h
+last_within n m (saw.Mark x ∷ xs) word h all = last_within n m xs word h (All-tail (IsWithin n m) (saw.Mark x) xs all)
+last_within n m (saw.Counter x ∷ xs) word h all = let le : x ≤ n = all 0 (saw.Counter x) (omega arith) in last_within n m xs (x + 1) (omega (arith, le)) (All-tail (IsWithin n m) (saw.Counter x) xs all)
+
+-- and this is what it found
+pub last_is : (before : List Look) (mark next : ℕ) → above_last (before ++ saw.Mark mark ∷ saw.Counter next ∷ []) ≡ next + 1
+last_is before mark next = fold-append next_above 0 before (saw.Mark mark ∷ saw.Counter next ∷ [])
 
 few_or_more : (p : ℕ) → Dec (p ≤ 1) → (p ≤ 1) ⊎ (1 < p)
 few_or_more p (yes few) = inl few
@@ -528,14 +679,43 @@ splits {S} o id v is s h at =
           refl
           refl
           refl
+          (omega arith)
+          refl
+          (omega arith)
           (parts_split v.parts)
           (λ _ empty. let none_left : v.parts - 1 ≡ 0 = empty in lost (omega arith))
           (λ _ empty. let none_left : part_of v.parts ≡ 0 = empty in ⊎_elim lost (λ more. absurd (omega (arith, none_left, part_of-one v.parts more))) (few_or_more v.parts (dec_le v.parts 1)));
     }
 
--- a seat that knows looks alone is split off a drawer's
-pub witnesses : {S : Type 0} (o id : ℕ) (v : View) → v.draws ≡ true → Splits {S = S} (Ruled o) id v v (witness_of v)
-witnesses {S} o id v is s h at =
+-- a seat that tells what it owes is split off a drawer's
+pub promises : {S : Type 0} (o id : ℕ) (v : View) → v.draws ≡ true → Splits {S = S} (Ruled o) id v (owing v) (promise_of v)
+promises {S} o id v is s h at =
+    let st = h.stands in
+    let fits = st.each id v at in
+    let most : above_last v.looks ≤ h.next + 1 = last_within h.next h.mark v.looks 0 (omega arith) fits.looks in
+    record {
+      next = h.next;
+      mark = h.mark;
+      keeper = h.keeper;
+      words = h.words;
+      stands = cuts o h.next h.mark h.keeper s.views id v (owing v) (promise_of v) st at
+          (λ x. omega arith)
+          (fits_owing o h.next h.mark h.keeper id (max v.owes (above_last v.looks)) v is (omega (arith, most, fits.owes)) fits)
+          (λ by. fits_promise o h.next h.mark h.keeper by (max v.owes (above_last v.looks)) 0 (omega (arith, most, fits.owes)) (omega arith))
+          refl
+          refl
+          refl
+          (omega arith)
+          refl
+          (omega arith)
+          (omega arith)
+          (λ _ empty. omega (arith, st.lost id v at is empty))
+          (λ draws _. absurd (off draws));
+    }
+
+-- a seat that tells where the mark is is split off the keeper's
+pub tells : {S : Type 0} (o id : ℕ) (v : View) → v.keeps ≡ true → Splits {S = S} (Ruled o) id v v (mark_of v)
+tells {S} o id v is s h at =
     let st = h.stands in
     let fits = st.each id v at in
     record {
@@ -543,15 +723,18 @@ witnesses {S} o id v is s h at =
       mark = h.mark;
       keeper = h.keeper;
       words = h.words;
-      stands = cuts o h.next h.mark h.keeper s.views id v v (witness_of v) st at
+      stands = cuts o h.next h.mark h.keeper s.views id v v (mark_of v) st at
           (λ x. omega arith)
           fits
-          (λ by. fits_witness o h.next h.mark h.keeper by (v.known ++ v.looks) (All-append (IsWithin h.next h.mark) v.known v.looks fits.known fits.looks))
+          (λ by. fits_promise o h.next h.mark h.keeper by 0 v.mark (omega arith) (omega (arith, (fits.keeps is).1)))
           refl
           refl
           refl
           (omega arith)
-          (λ _ empty. omega (arith, st.lost id v at is empty))
+          refl
+          (omega arith)
+          (omega arith)
+          (λ draws empty. omega (arith, st.lost id v at draws empty))
           (λ draws _. absurd (off draws));
     }
 
@@ -572,6 +755,9 @@ informs {S} o id v s h at =
           refl
           refl
           refl
+          (omega arith)
+          refl
+          (omega arith)
           (omega arith)
           (λ is empty. omega (arith, st.lost id v at is empty))
           (λ draws _. absurd (off draws));
@@ -595,13 +781,37 @@ opens {S} o id v not some_part s h at =
           refl
           refl
           (omega arith)
+          refl
+          (omega arith)
+          (omega arith)
           (λ is _. absurd (true≢false (sym is ∙ not)))
           (λ _ empty. absurd (omega (arith, empty, some_part)));
     }
 
+none_or_one : (n owes : ℕ) → (once_below n owes ≡ 0) ⊎ (once_below n owes ≡ 1)
+none_or_one n owes = few (once_below n owes) (once_below-le n owes) where
+  few : (c : ℕ) → c ≤ 1 → (c ≡ 0) ⊎ (c ≡ 1)
+  few zero _ = inl refl
+  few (suc c) le = inr (omega (arith, le))
+
+-- a seat's view stays where another's changes
+at_other : (other : ℕ) (u : View) (views' : List View) (id : ℕ) (v : View) → other ≢ id → get_elem? views' id ≡ some v → get_elem? (set views' other u) id ≡ some v
+at_other zero u [] id v apart at = at
+at_other (suc other) u [] id v apart at = at
+at_other zero u (x ∷ xs) zero v apart at = absurd (apart refl)
+at_other zero u (x ∷ xs) (suc id) v apart at = at
+at_other (suc other) u (x ∷ xs) zero v apart at = at
+at_other (suc other) u (x ∷ xs) (suc id) v apart at = at_other other u xs id v (λ e. apart (ap suc e)) at
+
+-- a seat's new view
+at_own : (views : List View) (id : ℕ) (v w : View) → get_elem? views id ≡ some v → get_elem? (set views id w) id ≡ some w
+at_own [] id v w at = absurd (some-ne-none v (sym at))
+at_own (x ∷ xs) zero v w at = refl
+at_own (x ∷ xs) (suc id) v w at = at_own xs id v w at
+
 -- a seat takes in another, as `both`
 glues : (o n m k k' : ℕ) (views : List View) (id other : ℕ) (v w : View) → Stands o n m k views → get_elem? views id ≡ some v → other ≢ id → get_elem? (set views id (both v w)) other ≡ some w
-    → ((both v w).keeps ≡ true → (id ≡ k') × ((both v w).mark ≡ m)) → ((both v w).keeps ≡ true → (both v w).lifted ≡ false → m ≤ n + 256) → ((j : ℕ) → j ≢ id → j ≢ other → j ≡ k → j ≡ k')
+    → ((both v w).keeps ≡ true → (id ≡ k') × ((both v w).mark ≡ m)) → ((both v w).keeps ≡ true → (both v w).lifted ≡ false → m ≤ (both v w).promised + 255) → ((j : ℕ) → j ≢ id → j ≢ other → j ≡ k → j ≡ k')
     → Stands o n m k' (set (set views id (both v w)) other nobody)
 glues o n m k k' views id other v w h at apart there mine near others =
     let fits = h.each id v at in
@@ -617,11 +827,23 @@ glues o n m k k' views id other v w h at apart there mine near others =
       advances = All-append (λ a. a.1 ≤ n) v.advances w.advances fits.advances theirs.advances;
       keeps = mine;
       near = near;
+      owes = omega (arith, fits.owes, theirs.owes);
+      promised = omega (arith, fits.promised, theirs.promised);
+      marked = omega (arith, fits.marked, theirs.marked);
+      free = λ not. let each = neither v.draws w.draws not in omega (arith, fits.free each.0, theirs.free each.1);
       plain = λ not. let each = neither v.keeps w.keeps not in no_more v.advances w.advances (fits.plain each.0) (theirs.plain each.1);
       idle = λ not. let each = neither v.draws w.draws not in no_more v.drawn w.drawn (fits.idle each.0) (theirs.idle each.1);
     } in
     let views' = set views id (both v w) in
     let before = ⊎_elim (λ (t : (other ≡ id) × (both v w ≡ w)). absurd (apart t.0)) (λ (t : (other ≢ id) × (get_elem? views other ≡ some w)). t.1) (at_set views id other (both v w) w there) in
+    let owed_sum : sum_by (owes_above n) (set views' other nobody) + owes_above n v + owes_above n w ≡ sum_by (owes_above n) views + owes_above n (both v w) =
+    omega (arith, sum_by_at (owes_above n) views' other w nobody there, sum_by_at (owes_above n) views id v (both v w) at, once_below-none n) in
+    let owned = at_other other nobody views' id (both v w) apart (at_own views id v (both v w) at) in
+    let kept : (word : ℕ) → IsPromised n views word → IsPromised n (set views' other nobody) word = λ word. ⊎_elim (λ reached. inl reached)
+    (λ owed. ⊎_elim
+    (λ low. inr (omega (arith, owed, owed_sum, once_below-greater n v.owes (max v.owes w.owes) (omega arith), once_below-greater n w.owes (max v.owes w.owes) (omega arith), low)))
+    (λ high. inr (omega (arith, high, share_of_one (owes_above n) (set views' other nobody) id (both v w) owned)))
+    (none_or_one n (max v.owes w.owes))) in
     let total : sum_by parts_of (set views' other nobody) ≡ sum_by parts_of views = omega (arith, sum_by_at parts_of views' other w nobody there, sum_by_at parts_of views id v (both v w) at) in
     let more : (x : ℕ) → sum_by (drawn_here x) views ≤ sum_by (drawn_here x) (set views' other nobody) = λ x. omega (arith, sum_by_at (drawn_here x) views' other w nobody there, sum_by_at (drawn_here x) views id v (both v w) at, sum_by-append (λ (y : ℕ). cond (y == x) 1 0) v.drawn w.drawn) in
     let one_lost : (v.draws || w.draws) ≡ true → v.parts + w.parts ≡ 0 → sum_by parts_of views < 1024 = λ is empty.
@@ -639,6 +861,15 @@ glues o n m k k' views id other v w h at apart there mine near others =
           ⊎_elim
           (λ (t' : (j ≡ id) × (both v w ≡ u)). subst (λ (y : ℕ × View). Fits o n m k' y.0 y.1) (λ i. (sym t'.0 i, t'.1 i)) joined)
           (λ (t' : (j ≢ id) × (get_elem? views j ≡ some u)). fits_later o n m k n m k' j u (h.each j u t'.1) (omega arith) (omega arith) (λ e'. (others j t'.0 t.0 e', refl)))
+          (at_set views id j (both v w) u t.1))
+          (at_set views' other j nobody u e);
+      promises = λ j u e.
+          ⊎_elim
+          (λ (t : (j ≡ other) × (nobody ≡ u)). subst (λ (y : View). IsPromised n (set views' other nobody) y.promised) t.1 (inl (omega arith)))
+          (λ (t : (j ≢ other) × (get_elem? views' j ≡ some u)).
+          ⊎_elim
+          (λ (t' : (j ≡ id) × (both v w ≡ u)). subst (λ (y : View). IsPromised n (set views' other nobody) y.promised) t'.1 (greater (set views' other nobody) (kept v.promised (h.promises id v at)) (kept w.promised (h.promises other w before))))
+          (λ (t' : (j ≢ id) × (get_elem? views j ≡ some u)). kept u.promised (h.promises j u t'.1))
           (at_set views id j (both v w) u t.1))
           (at_set views' other j nobody u e);
       reached = reached_later o views (set views' other nobody) n more h.reached;
@@ -665,6 +896,9 @@ glues o n m k k' views id other v w h at apart there mine near others =
           omega (arith, short, total);
     }
   where
+    greater : (all : List View) → IsPromised n all v.promised → IsPromised n all w.promised → IsPromised n all (max v.promised w.promised)
+    greater all a b = ⊎_elim (λ low. ⊎_elim (λ low'. inl (omega (arith, low, low'))) (λ owed. inr owed) b) (λ owed. inr owed) a
+
     neither : (a b : Bool) → (a || b) ≡ false → (a ≡ false) × (b ≡ false)
     neither true b e = absurd (true≢false e)
     neither false b e = (refl, e)
@@ -685,7 +919,7 @@ joins_as o n m k views id other v w true is h at apart there =
       id,
       glues o n m k id views id other v w h at apart there
           (λ _. (refl, subst (λ b. cond b w.mark v.mark ≡ m) (sym is) keeper.1))
-          (λ _ still. theirs.near is (subst (λ b. cond b w.lifted v.lifted ≡ false) is still))
+          (λ _ still. omega (arith, theirs.near is (subst (λ b. cond b w.lifted v.lifted ≡ false) is still)))
           (λ j _ not_other e. absurd (not_other (e ∙ sym keeper.0))),
     )
 joins_as o n m k views id other v w false is h at apart there =
@@ -693,7 +927,7 @@ joins_as o n m k views id other v w false is h at apart there =
       k,
       glues o n m k k views id other v w h at apart there
           (λ e. let kept = fits.keeps (keeps_alone e) in (kept.0, subst (λ b. cond b w.mark v.mark ≡ m) (sym is) kept.1))
-          (λ e still. fits.near (keeps_alone e) (subst (λ b. cond b w.lifted v.lifted ≡ false) is still))
+          (λ e still. omega (arith, fits.near (keeps_alone e) (subst (λ b. cond b w.lifted v.lifted ≡ false) is still)))
           (λ j _ _ e. e),
     )
   where
@@ -711,39 +945,18 @@ joins {S} o id v other w s h at apart there =
 
 -- where the keeper's seat has all parts, nothing went by at another
 others_idle : (o n m k : ℕ) (views : List View) (id : ℕ) (v : View) → Stands o n m k views → get_elem? views id ≡ some v → v.keeps ≡ true → v.parts ≡ 1024
-    → (x by : ℕ) (u : View) → by ≢ id → get_elem? views by ≡ some u → gone x u ≡ 0
-others_idle o n m k views id v h at keeper whole x by u apart bt =
+    → (by : ℕ) (u : View) → by ≢ id → get_elem? views by ≡ some u → ((x : ℕ) → gone x u ≡ 0) × (owes_above n u ≡ 0)
+others_idle o n m k views id v h at keeper whole by u apart bt =
     let fits = h.each by u bt in
     let two = share_of_two parts_of views id by v u (λ e. apart (sym e)) at bt in
     let empty : u.parts ≡ 0 = omega (arith, two, h.parts, whole) in
     let idle : u.draws ≡ false = not_true u.draws (λ is. omega (arith, h.lost by u bt is empty, two, whole)) in
     let plain : u.keeps ≡ false = not_true u.keeps (λ is. apart ((fits.keeps is).0 ∙ sym ((h.each id v at).keeps keeper).0)) in
-    ap (λ (p : List ℕ × List (ℕ × ℕ)). times x p.0 + passed_over x p.1) (λ i. (fits.idle idle i, fits.plain plain i))
+    ((λ x. ap (λ (p : List ℕ × List (ℕ × ℕ)). times x p.0 + passed_over x p.1) (λ i. (fits.idle idle i, fits.plain plain i))), ap (once_below n) (fits.free idle) ∙ once_below-none n)
   where
     not_true : (b : Bool) → (b ≡ true → ⊥) → b ≡ false
     not_true true h = absurd (h refl)
     not_true false h = refl
-
--- a seat that takes in one that knows looks alone: it knows these too
-pub both_knows : (v w : View) → OnlyKnows w → ◌≡◌ {A = View} (both v w) (record v { known = v.known ++ w.known })
-both_knows v w only = ap (both v) only ∙ alone (omega arith) where
-  or_false : (b : Bool) → (b || false) ≡ b
-  or_false true = refl
-  or_false false = refl
-
-  alone : v.parts + 0 ≡ v.parts → ◌≡◌ {A = View} (both v (record nobody { known = w.known })) (record v { known = v.known ++ w.known })
-  alone same = λ i. record v {
-    keeps = or_false v.keeps i;
-    draws = or_false v.draws i;
-    parts = same i;
-    advances = append-nil v.advances i;
-    drawn = append-nil v.drawn i;
-    raised = append-nil v.raised i;
-    noted = append-nil v.noted i;
-    looks = append-nil v.looks i;
-    known = v.known ++ w.known;
-    informed = append-nil v.informed i;
-  }
 
 pub both_keeps : (v w : View) → w.keeps ≡ true → (both v w).keeps ≡ true
 both_keeps v w is = ap (λ b. v.keeps || b) is ∙ any v.keeps
@@ -767,6 +980,7 @@ pub record Ends (o next mark : ℕ) (v : View) : Type 0 where
   pub once : (x : ℕ) → times x v.drawn ≤ 1
   pub all : v.keeps ≡ true → v.parts ≡ 1024 → (x : ℕ) → gone x v + once_below x o ≡ once_below x next
   pub found : v.keeps ≡ true → v.parts ≡ 1024 → All (IsEndOf o v.drawn) v.looks
+  pub paid : v.keeps ≡ true → v.parts ≡ 1024 → v.lifted ≡ false → v.owes ≡ 0 → mark < next + 256
 
 pub ends : {S : Type 0} (o id : ℕ) (v : View) (ws : List ℕ) (xs : List S) (next mark : ℕ) → Final (Seen (Ruled o) id v) ws xs → get_elem? ws 0 ≡ some next → get_elem? ws 1 ≡ some mark → Ends o next mark v
 ends {S} o id v ws xs next mark final at_0 at_1 =
@@ -785,9 +999,14 @@ ends {S} o id v ws xs next mark final at_0 at_1 =
       fits = (h.keeper, id, st.each id v at);
       once = λ x. omega (arith, share_of_one (gone x) s.views id v at, st.once x, once_below-le x h.next);
       found = λ keeper whole. All-weaker (HasReached o s.views) (IsEndOf o v.drawn)
-          (end_of o v s.views (λ x. share_alone (drawn_here x) s.views id v at (λ by u apart bt. omega (arith, others_idle o h.next h.mark h.keeper s.views id v st at keeper whole x by u apart bt))))
+          (end_of o v s.views (λ x. share_alone (drawn_here x) s.views id v at (λ by u apart bt. omega (arith, (others_idle o h.next h.mark h.keeper s.views id v st at keeper whole by u apart bt).0 x))))
           v.looks (st.found id v at);
-      all = λ keeper whole x. omega (arith, st.once x, share_alone (gone x) s.views id v at (others_idle o h.next h.mark h.keeper s.views id v st at keeper whole x));
+      all = λ keeper whole x. omega (arith, st.once x, share_alone (gone x) s.views id v at (λ by u apart bt. (others_idle o h.next h.mark h.keeper s.views id v st at keeper whole by u apart bt).0 x));
+      paid = λ keeper whole still none.
+          let mine = st.each id v at in
+          let alone = share_alone (owes_above h.next) s.views id v at (λ by u apart bt. (others_idle o h.next h.mark h.keeper s.views id v st at keeper whole by u apart bt).1) in
+          let nothing : owes_above h.next v ≡ 0 = ap (once_below h.next) none ∙ once_below-none h.next in
+          ⊎_elim (λ reached. omega (arith, mine.near keeper still, reached)) (λ owed. absurd (omega (arith, owed, alone, nothing))) (st.promises id v at);
     } in
     subst (λ (y : ℕ × ℕ). Ends o y.0 y.1 v) (λ i. (counter i, bound i)) found
 

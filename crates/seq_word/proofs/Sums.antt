@@ -60,6 +60,19 @@ once_below_more x n = grind (arith, nat_tests)
 pub once_below-max : (x n to : ℕ) → once_below x (max n to) ≡ once_below x n + cond (nat_le n x && nat_lt x to) 1 0
 once_below-max x n to = grind (arith, nat_tests)
 
+pub once_below-none : (n : ℕ) → once_below n 0 ≡ 0
+once_below-none n = grind (arith, nat_tests)
+
+pub once_below-above : (n owes : ℕ) → n < owes → once_below n owes ≡ 1
+once_below-above n owes above = grind (arith, nat_tests)
+
+-- what is cleared at a look was reached
+pub once_below-behind : (x n owes : ℕ) → x ≤ n → once_below n owes ≤ once_below n (cond (nat_le owes x) 0 owes)
+once_below-behind x n owes le = grind (arith, nat_tests)
+
+pub once_below-greater : (n a b : ℕ) → a ≤ b → once_below n a ≤ once_below n b
+once_below-greater n a b le = grind (arith, nat_tests)
+
 pub same-one : (x : ℕ) → ◌≡◌ {A = ℕ} (cond (x == x) 1 0) 1
 same-one x = grind (arith, nat_tests)
 

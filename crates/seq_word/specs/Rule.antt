@@ -1,6 +1,6 @@
 -- What the two words and the seats at them keep between any two atomic steps, and what each step does to the view of its seat.
 -- Word 0 is the counter: the next number to draw. Word 1 is the mark: no number at or above it is drawn.
-use Rattle.std.specs.Prelude.{◌≡◌, ◌≢◌, ◌⊎◌, ℕ, ◌+◌, ◌-◌, ◌^◌, ◌<◌, ◌≤◌, ◌==◌, ◌&&◌, ◌||◌, nat_lt, nat_le, if◌then◌else◌, true, false, List, [], ◌∷◌, ◌++◌, All, map, slice_index, sum_by, count_by, ⊤}
+use Rattle.std.specs.Prelude.{◌≡◌, ◌≢◌, ◌⊎◌, ℕ, ◌+◌, ◌-◌, ◌^◌, ◌<◌, ◌≤◌, ◌==◌, ◌&&◌, ◌||◌, max, nat_lt, nat_le, if◌then◌else◌, true, false, List, [], ◌∷◌, ◌++◌, All, fold, map, slice_index, sum_by, count_by, ⊤}
 use Rattle.std.specs.List.{Contains}
 use mathlib.Core.Option.{some}
 use lib.ListN.{get_elem?}
@@ -55,6 +55,27 @@ abbrev pub IsEndOf : ℕ → List ℕ → Look → Type 0
 IsEndOf opened words (saw.Mark found) = ⊤
 IsEndOf opened words (saw.Counter found) = seq_of found ≡ 2 ^ 24 → (found ≡ opened) ⊎ Contains words (found - 1)
 
+-- 1 where the seat owes the counter a word above this one, else 0
+abbrev pub owes_above : ℕ → View → ℕ
+owes_above next v = once_below next v.owes
+
+-- the counter has reached the word, or a seat owes it one above where it is
+abbrev pub IsPromised : ℕ → List View → ℕ → Type 0
+IsPromised next views word = (word ≤ next) ⊎ (1 ≤ sum_by (owes_above next) views)
+
+-- what is still owed where a look found this: nothing that the counter was found to have reached
+abbrev pub owed_behind : Look → ℕ → ℕ
+owed_behind (saw.Mark found) owes = owes
+owed_behind (saw.Counter found) owes = if nat_le owes found then 0 else owes
+
+-- one above the word that the last of these looks at the counter found; 0 where there is none
+abbrev pub next_above : ℕ → Look → ℕ
+next_above word (saw.Mark found) = word
+next_above word (saw.Counter found) = found + 1
+
+abbrev pub above_last : List Look → ℕ
+above_last looks = fold next_above 0 looks
+
 -- What holds of the view of the seat `by`, where the counter was opened at `opened` and is `next`, and the mark is `mark`,
 -- which the seat `keeper` keeps
 pub record Fits (opened next mark keeper by : ℕ) (v : View) : Type 0 where
@@ -75,11 +96,16 @@ pub record Fits (opened next mark keeper by : ℕ) (v : View) : Type 0 where
   pub advances : All (λ a. a.1 ≤ next) v.advances
   -- only the keeper's seat keeps a mark, and that is the mark
   pub keeps : v.keeps ≡ true → (by ≡ keeper) × (v.mark ≡ mark)
-  -- the mark is at most a block above the counter, but while the keeper moves both to a new IV Index
-  pub near : v.keeps ≡ true → v.lifted ≡ false → mark ≤ next + 256
-  -- no other seat has advanced the counter, and only a drawer's has drawn
+  -- the mark is less than a block above what the keeper was promised, but while the keeper moves both to a new IV Index
+  pub near : v.keeps ≡ true → v.lifted ≡ false → mark ≤ v.promised + 255
+  -- what a seat owes, or was promised, is at most one above the counter; and the mark is not below where it was told that it is
+  pub owes : v.owes ≤ next + 1
+  pub promised : v.promised ≤ next + 1
+  pub marked : v.marked ≤ mark
+  -- no other seat has advanced the counter, and only a drawer's has drawn, or owes
   pub plain : v.keeps ≡ false → v.advances ≡ []
   pub idle : v.draws ≡ false → v.drawn ≡ []
+  pub free : v.draws ≡ false → v.owes ≡ 0
 
 -- The running rule, of the two words as numbers and of all views
 pub record Stands (opened next mark keeper : ℕ) (views : List View) : Type 0 where
@@ -90,6 +116,8 @@ pub record Stands (opened next mark keeper : ℕ) (views : List View) : Type 0 w
   -- each word from the opening on and below the counter went by once, at one seat, and no other word did
   pub once : (x : ℕ) → sum_by (gone x) views + once_below x opened ≡ once_below x next
   pub each : (by : ℕ) (v : View) → get_elem? views by ≡ some v → Fits opened next mark keeper by v
+  -- what any seat was promised was reached, or is owed
+  pub promises : (by : ℕ) (v : View) → get_elem? views by ≡ some v → IsPromised next views v.promised
   -- where the counter is at the end of an IV Index, or a look found it there, the last number under that was drawn
   pub reached : IsReached opened views next
   pub found : (by : ℕ) (v : View) → get_elem? views by ≡ some v → All (HasReached opened views) v.looks
@@ -122,11 +150,14 @@ nobody =
       looks = [];
       known = [];
       informed = [];
+      owes = 0;
+      promised = 0;
+      marked = 0;
     }
 
 -- the keeper's seat at the start, with all parts
 abbrev pub first_keeper : ℕ → View
-first_keeper mark = record nobody { keeps = true; mark = mark; parts = 1024 }
+first_keeper mark = record nobody { keeps = true; mark = mark; parts = 1024; promised = mark }
 
 -- and once it has handed them on, to the first drawer's seat
 abbrev pub without_parts : View → View
@@ -154,9 +185,17 @@ split_off v =
       known = v.known ++ v.looks;
     }
 
--- what a seat knows that is split off to show what was seen: the looks at the other seat, or known there. It never draws
-abbrev pub witness_of : View → View
-witness_of v = record nobody { known = v.known ++ v.looks }
+-- a drawer's seat that owes the counter the word above the one that it found there last
+abbrev pub owing : View → View
+owing v = record v { owes = max v.owes (above_last v.looks) }
+
+-- what a seat knows that is split off it then: that this is owed. It never draws
+abbrev pub promise_of : View → View
+promise_of v = record nobody { promised = max v.owes (above_last v.looks) }
+
+-- what a seat knows that is split off the keeper's to tell where the mark is. It never draws
+abbrev pub mark_of : View → View
+mark_of v = record nobody { marked = v.mark }
 
 -- what a seat knows that is split off the keeper's to tell where the counter was moved to. It never draws
 abbrev pub moves_of : View → View
@@ -177,14 +216,17 @@ both v w = record {
   looks = v.looks ++ w.looks;
   known = v.known ++ w.known;
   informed = v.informed ++ w.informed;
+  owes = max v.owes w.owes;
+  promised = max v.promised w.promised;
+  marked = max v.marked w.marked;
 }
 
 abbrev pub seeing : View → Look → View
-seeing v look = record v { looks = v.looks ++ look ∷ [] }
+seeing v look = record v { looks = v.looks ++ look ∷ []; owes = owed_behind look v.owes }
 
--- the number `word` is drawn, and the counter raised to `after`
+-- the number `word` is drawn, and the counter raised to `after`: so nothing is owed
 abbrev pub drawing : View → ℕ → ℕ → View
-drawing v word after = record v { drawn = v.drawn ++ word ∷ []; raised = v.raised ++ after ∷ [] }
+drawing v word after = record v { drawn = v.drawn ++ word ∷ []; raised = v.raised ++ after ∷ []; owes = 0 }
 
 abbrev pub publishing : View → ℕ → View
 publishing v mark = record v { mark = mark }
@@ -195,7 +237,7 @@ lifting v mark = record v { mark = mark; lifted = true }
 
 -- and the counter is there
 abbrev pub advancing : View → ℕ → ℕ → View
-advancing v from to = record v { advances = v.advances ++ (from, to) ∷ []; lifted = false }
+advancing v from to = record v { advances = v.advances ++ (from, to) ∷ []; lifted = false; promised = to }
 
 -- The seat's last look was at the counter, where it found this word, and the one before at a mark above that
 pub record IsLastSeen (word : ℕ) (v : View) : Type 0 where
@@ -212,11 +254,13 @@ pub record IsOver (word : ℕ) (v : View) : Type 0 where
   pub looks : All (IsPast word) v.looks
   pub known : All (IsPast word) v.known
   pub informed : All (λ x. x ≤ word) v.informed
+  -- at most the word above is owed
+  pub owes : v.owes ≤ word + 1
 
 module _ {S : Type 0} where
-  -- a load of the mark: it is noted as seen
+  -- a load of the mark: it is noted as seen, and isn't below where the seat was told that it is
   abbrev pub SeesMark : Step S → Me S View → ℕ → Me S View → Type 0
-  SeesMark st v found w = w ≡ (seeing v.0 (saw.Mark found), v.1)
+  SeesMark st v found w = (w ≡ (seeing v.0 (saw.Mark found), v.1)) × (v.0.marked ≤ found)
 
   -- a load of the counter: the word is noted as seen, which is over all that is known of the counter
   abbrev pub SeesNext : Step S → Me S View → ℕ → Me S View → Type 0
@@ -231,9 +275,9 @@ module _ {S : Type 0} where
       → (w ≡ (drawing v.0 found st.second, v.1)) × All (λ x. x < found) v.0.drawn × All (λ x. x < found) v.0.noted)
       × (found ≢ st.first → (w ≡ (seeing v.0 (saw.Counter found), v.1)) × (st.first < found))
 
-  -- a store on the mark: it is the keeper's mark
+  -- a store on the mark: it is the keeper's mark. What the keeper was promised is at most one above the mark before
   abbrev pub Publishes : Step S → Me S View → ℕ → Me S View → Type 0
-  Publishes st v found w = w ≡ (publishing v.0 st.first, v.1)
+  Publishes st v found w = (w ≡ (publishing v.0 st.first, v.1)) × (v.0.promised ≤ v.0.mark + 1)
 
   -- a store on the mark, of the word that the counter is to go to: it is the keeper's mark, and the keeper moves
   abbrev pub Lifts : Step S → Me S View → ℕ → Me S View → Type 0
@@ -243,7 +287,7 @@ module _ {S : Type 0} where
   abbrev pub Advances : Step S → Me S View → ℕ → Me S View → Type 0
   Advances st v found w = w ≡ (advancing v.0 found st.first, v.1)
 
--- a seat that keeps the mark, isn't moving, has no parts, and has drawn and seen nothing; each of its advances went to SEQ 0
+-- a seat that keeps the mark, isn't moving, has no parts, has drawn and seen nothing, and owes nothing; each of its advances went to SEQ 0
 pub record OnlyKeeps (v : View) : Type 0 where
   pub keeps : v.keeps ≡ true
   pub still : v.lifted ≡ false
@@ -254,16 +298,16 @@ pub record OnlyKeeps (v : View) : Type 0 where
   pub noted : v.noted ≡ []
   pub looks : v.looks ≡ []
   pub informed : v.informed ≡ []
+  pub owes : v.owes ≡ 0
 
--- a seat that draws, and has neither kept the mark nor advanced the counter
+-- a seat that draws, and has neither kept the mark nor advanced the counter. Where it owes a word, the one before isn't at the end of an IV Index,
+-- and it was told of a mark that isn't below it
 pub record OnlyDraws (v : View) : Type 0 where
   pub keeps : v.keeps ≡ false
   pub draws : v.draws ≡ true
   pub advances : v.advances ≡ []
-
--- a seat that knows looks and nothing else
-abbrev pub OnlyKnows : View → Type 0
-OnlyKnows v = v ≡ record nobody { known = v.known }
+  pub unspent : seq_of (v.owes - 1) < 2 ^ 24
+  pub marked : v.owes ≤ v.marked
 
 -- no two places of the drawn lists, of one seat or of two, hold one word
 abbrev pub DrawnOnce : List View → Type 0
@@ -278,8 +322,9 @@ MarkIsKept s =
     → w.keeps ≡ true
     → (by ≡ by') × (slice_index s.words 1 ≡ v.mark)
 
--- the second word is at most 256 above the first, but while the keeper's seat moves both
+-- The second word is at most 256 above the first, but while the keeper's seat moves both; and where it is 256 above, a seat owes a draw
 abbrev pub MarkIsNear : {S : Type 0} → State S View → Type 0
 MarkIsNear s =
     (by : ℕ) (v : View) → get_elem? s.views by ≡ some v → v.keeps ≡ true → v.lifted ≡ false
-    → slice_index s.words 1 ≤ slice_index s.words 0 + 256
+    → (slice_index s.words 1 ≤ slice_index s.words 0 + 256)
+    × ((slice_index s.words 1 < slice_index s.words 0 + 256) ⊎ (1 ≤ sum_by (owes_above (slice_index s.words 0)) s.views))

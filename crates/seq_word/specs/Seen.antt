@@ -2,6 +2,7 @@
 use Rattle.std.specs.Prelude.{◌≡◌, ℕ, ◌+◌, ◌*◌, ◌^◌, ◌<◌, ◌≤◌, List, [], ◌∷◌, ◌++◌, All, fold, map, ⊤}
 use Rattle.atomic_table.specs.Seated.{TableId}
 use Rattle.mesh_base.specs.declared.pair.Pair.{Pair}
+use Rattle.seq_word.specs.Dry.{DryView}
 use Rattle.seq_word.specs.declared.looks.Look.{Look}
 use Rattle.seq_word.specs.declared.looks.Look.TheVariants as saw
 use Rattle.seq_word.specs.declared.miss.Miss.{Miss}
@@ -19,7 +20,8 @@ pub record NumbersView : Type 0 where
 
 -- A seat that draws: at which words, the words that it drew, what each draw left in the counter, the words that were drawn
 -- before it was split off, its looks at the two words in their order, those that had been made before it was split off, where it was told that the
--- keeper had moved the counter to, and its parts of the 1,024 that the drawers of these words have between them
+-- keeper had moved the counter to, its parts of the 1,024 that the drawers of these words have between them, and the word that the counter is to
+-- reach yet, since a refill was published for this seat: 0 where it owes none
 pub record DrawerView : Type 0 where
   pub which : TableId
   pub drawn : List ℕ
@@ -29,11 +31,22 @@ pub record DrawerView : Type 0 where
   pub known : List Look
   pub informed : List ℕ
   pub parts : ℕ
+  pub owes : ℕ
 
 -- a seat that has drawn and seen nothing, where these words had been drawn before it was split off
 abbrev pub fresh : TableId → List ℕ → ℕ → DrawerView
 fresh which noted parts =
-    record { which = which; drawn = []; raised = []; noted = noted; looks = []; known = []; informed = []; parts = parts }
+    record {
+      which = which;
+      drawn = [];
+      raised = [];
+      noted = noted;
+      looks = [];
+      known = [];
+      informed = [];
+      parts = parts;
+      owes = 0;
+    }
 
 -- one that was split off another, so that it knows what that one saw
 abbrev pub split_from : DrawerView → DrawerView
@@ -74,6 +87,10 @@ pub record Finds (p : Pair) (v w : DrawerView) : Type 0 where
   pub looks : w.looks ≡ v.looks ++ saw.Mark mark ∷ saw.Counter (word_of p) ∷ []
   pub below : word_of p < mark
 
+-- The seat's last two looks found what this tells
+abbrev pub IsFoundBy : DryView → DrawerView → Type 0
+IsFoundBy dry v = (before : List Look) × (v.looks ≡ before ++ saw.Mark dry.mark ∷ saw.Counter dry.next ∷ [])
+
 -- The cause of a miss, by the looks of the try: first at the mark, then at the counter, and where the exchange was lost what it found
 abbrev pub HasCause : Miss → DrawerView → DrawerView → Type 0
 HasCause (missed.Spent iv) v w =
@@ -90,7 +107,7 @@ abbrev pub IsEndAbove : DrawerView → Miss → Type 0
 IsEndAbove v (missed.Spent iv) = IsAbove v (iv * 2 ^ 25 + 2 ^ 24)
 IsEndAbove v _ = ⊤
 
--- the seat has drawn nothing more, and still draws at the same words
+-- the seat has drawn nothing more, and still draws at the same words. It may owe less
 pub record SameDrawn (v w : DrawerView) : Type 0 where
   pub which : w.which ≡ v.which
   pub drawn : w.drawn ≡ v.drawn

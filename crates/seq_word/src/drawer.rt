@@ -9,7 +9,8 @@ use std::marker::Model;
 ///
 /// A contract sees what was drawn here and what that left in the counter, what had been drawn where this seat was split
 /// off, the looks at the two words in their order, those that had been made where this seat was split off, where it was told that the keeper had moved
-/// the counter to, and its parts of the 1,024.
+/// the counter to, its parts of the 1,024, and the word that the counter is to reach yet, since the mark was raised for this seat (0 for none). Any
+/// try to draw, whatever it answers, leaves a seat that owes none.
 #[derive(Drop)]
 pub struct Drawer {
     pub(crate) seat: Seat<u8, View>,
@@ -31,8 +32,9 @@ impl Model for Drawer {
       known = v.known;
       informed = v.informed;
       parts = v.parts;
+      owes = v.owes;
     } };
 
-    // It draws, keeps no mark, has made no advance and holds no slot.
+    // It draws, keeps no mark, has made no advance and holds no slot; and what it owes is at most a mark that it was told.
     ghost invariant = { λ d. OnlyDraws d.seat.me.0 × (d.seat.me.1 ≡ []) };
 }

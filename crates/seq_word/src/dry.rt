@@ -6,33 +6,30 @@ use atomic_table::Seat;
 use std::fmt;
 use std::fmt::{Debug, Display, Formatter};
 use std::marker::Model;
+use std::snapshot::Snapshot;
 
 /// That a draw found the counter at the mark, or above it: what a refill is asked for with. Only a draw makes one, once for each time, and it
 /// can't be copied: so for each time that the mark was reached at most one refill is stored, and published.
 ///
-/// It has a seat of its own at the words, split off the one that drew, which knows that look at the counter: so a block more than this mark is
-/// at most a block above the counter, whenever it is published.
+/// It is handed in with the seat that drew, which then owes a draw behind the mark that is published (`Numbers::publish`).
 #[derive(Drop)]
 pub struct Dry {
     pub(crate) next: u64,
     pub(crate) mark: u64,
-    pub(crate) seat: Seat<u8, View>,
+    pub(crate) by: Snapshot<Seat<u8, View>>,
 }
 
 impl Model for Dry {
-    ghost use Rattle.std.specs.Prelude.{◌≡◌, ◌≤◌, []};
-    ghost use Rattle.std.specs.List.{Contains};
+    ghost use Rattle.std.specs.Prelude.{◌≤◌, ◌<◌, ◌^◌};
     ghost use Rattle.seq_word.specs.Dry.{DryView};
-    ghost use Rattle.seq_word.specs.Rule.{OnlyKnows};
-    ghost use Rattle.seq_word.specs.declared.looks.Look.TheVariants as saw;
+    ghost use Rattle.seq_word.specs.Word.{seq_of};
 
     ghost Value = { DryView };
 
-    ghost view = { λ d. record { which = d.seat.table_id; next = d.next; mark = d.mark } };
+    ghost view = { λ d. record { which = d.by.value.table_id; next = d.next; mark = d.mark } };
 
-    // Its seat knows the look that found this word in the counter, keeps no mark, doesn't draw and holds no slot.
-    ghost invariant = { λ d. OnlyKnows d.seat.me.0 × (d.seat.me.1 ≡ [])
-        × Contains d.seat.me.0.known (saw.Counter d.next) × (d.mark ≤ d.next) };
+    // The counter was at the mark or above, and its IV Index had numbers left.
+    ghost invariant = { λ d. (d.mark ≤ d.next) × (seq_of d.next < 2 ^ 24) };
 }
 
 impl Dry {

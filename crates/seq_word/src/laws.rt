@@ -18,8 +18,8 @@ pub fn mark_is_kept()
     ensures { (opened : ℕ) (s : State ℕ View) → Ruled opened s → MarkIsKept s }
 {}
 
-/// Whatever the words and the seats are between two atomic steps, the second word is at most 256 above the first, but between the two steps
-/// by which the keeper's seat moves both to a new IV Index.
+/// Whatever the words and the seats are between two atomic steps, the second word is at most 256 above the first, and a seat owes a draw where
+/// it is 256 above; but between the two steps by which the keeper's seat moves both to a new IV Index.
 pub fn mark_is_near()
     ensures { (opened : ℕ) (s : State ℕ View) → Ruled opened s → MarkIsNear s }
 {}

@@ -1,12 +1,12 @@
 //! The two words, with all calls.
 #![tactic(auto)]
 
-ghost use Rattle.std.specs.Prelude.{◌≡◌, ◌≢◌, ℕ, ◌+◌, ◌-◌, ◌*◌, ◌^◌, ◌<◌, ◌≤◌, [], ◌∷◌, ◌++◌, All, AllPairs, IfOk, IfErr, OnErr};
+ghost use Rattle.std.specs.Prelude.{◌≡◌, ◌≢◌, ℕ, ◌+◌, ◌-◌, ◌*◌, ◌^◌, ◌<◌, ◌≤◌, max, [], ◌∷◌, ◌++◌, All, AllPairs, IfOk, IfErr, OnErr};
 ghost use Rattle.mesh_base.specs.Pairs.{word_of};
 ghost use Rattle.seq_word.specs.Word.{seq_of, IsWord};
 ghost use Rattle.seq_word.specs.declared.looks.Look.TheVariants as saw;
 ghost use Rattle.seq_word.specs.Rule.{IsEndOf, IsWithin, times, once_below, passed_over};
-ghost use Rattle.seq_word.specs.Seen.{fresh, IsAbove, IsEndAbove, IsPrefix, Finds, HasCause, SameDrawn, AfterLost, miss_of, split_from, went_to};
+ghost use Rattle.seq_word.specs.Seen.{fresh, IsAbove, IsEndAbove, IsPrefix, Finds, IsFoundBy, HasCause, SameDrawn, AfterLost, miss_of, split_from, went_to};
 
 use crate::closed::Closed;
 use crate::drawer::Drawer;
@@ -14,8 +14,8 @@ use crate::dry::Dry;
 use crate::keeper::Keeper;
 use crate::miss::{DrawStop, Miss};
 use crate::rule::{
-    Advances, COUNTER, Draws, Informs, Lifts, MARK, Opening, Opens, Publishes, Seats, SeesMark,
-    SeesNext, Witnesses, Words,
+    Advances, COUNTER, Draws, Informs, Lifts, MARK, Opening, Opens, Promises, Publishes, Seats,
+    SeesMark, SeesNext, Tells, Words,
 };
 use crate::word::{BLOCK, SPENT_SEQ, WORDS_PER_IV, pair_of};
 use atomic_table::Table;
@@ -29,8 +29,8 @@ use std::sync::Wait;
 /// each steps with a seat of its own. Words are those of `crate::word`.
 ///
 /// Between any two atomic steps the counter is at most the mark, and the mark is the keeper's. The mark is at most 256 above the counter, but
-/// between the two steps of an advance. Each word from the opening on and below the counter was drawn once, at one seat, or was passed over
-/// once, by an advance.
+/// between the two steps of an advance; and where it is 256 above, some seat owes a draw. Each word from the opening on and below the counter was
+/// drawn once, at one seat, or was passed over once, by an advance.
 #[derive(Drop)]
 pub struct Numbers {
     table: Words,
@@ -78,6 +78,9 @@ impl Numbers {
         ensures looks { d.new.looks ≡ d.old.looks ++ saw.Mark result.mark ∷ saw.Counter result.next ∷ [] }
         ensures above { IsAbove d.old result.next }
         ensures unchanged { SameDrawn d.old d.new }
+        ensures owes { d.new.owes ≤ result.next + 1 }
+        ensures paid { result.mark ≤ result.next → d.new.owes ≡ 0 }
+        ensures spent { 2 ^ 24 ≤ seq_of result.next → d.new.owes ≡ 0 }
     {
         let mark = self.table.shared.load::<SeesMark>(&mut d.seat, MARK);
         let next = self.table.shared.load::<SeesNext>(&mut d.seat, COUNTER);
@@ -103,6 +106,8 @@ impl Numbers {
         ensures err { OnErr result (SameDrawn d.old d.new) }
         ensures cause { IfErr result (λ e. HasCause e d.old d.new) }
         ensures end { IfErr result (IsEndAbove d.old) }
+        // Whatever the answer: the counter has passed each mark that was reached when this seat had it raised.
+        ensures owes { d.new.owes ≡ 0 }
     {
         let Found { mark, next } = self.look(d);
         let pair = pair_of(next);
@@ -110,8 +115,8 @@ impl Numbers {
             return Err(Miss::Spent { iv: pair.iv });
         }
         if next >= mark {
-            let seat = self.table.shared.split_seat::<Witnesses>(&mut d.seat);
-            return Err(Miss::Dry(Dry { next, mark, seat }));
+            let by = Snapshot::of(&d.seat);
+            return Err(Miss::Dry(Dry { next, mark, by }));
         }
         let words = &self.table.shared;
         let found = words.compare_exchange::<Draws>(&mut d.seat, COUNTER, next, next + 1);
@@ -141,6 +146,7 @@ impl Numbers {
         ensures err { OnErr result (SameDrawn d.old d.new) }
         ensures cause { IfErr result (λ e. AfterLost (HasCause (miss_of e)) d.old d.new) }
         ensures end { IfErr result (λ e. IsEndAbove d.old (miss_of e)) }
+        ensures owes { d.new.owes ≡ 0 }
     {
         for _ in rt.forever() {
             match self.try_draw(d) {
@@ -153,22 +159,30 @@ impl Numbers {
         unreachable!()
     }
 
-    /// Moves the mark up by 256, where a draw found the counter at it: so the mark is at most 256 above the counter. Publish a mark that is in
-    /// flash already, since numbers below it are drawn from now on.
+    /// Moves the mark up by 256, where a draw of this seat found the counter at it: so the mark is at most 256 above the counter. Publish a mark
+    /// that is in flash already, since numbers below it are drawn from now on. The seat owes then that the counter passes the mark that was reached;
+    /// its next try to draw pays that, whatever it answers. Where a seat owes, `close` tells that the mark is at most 256 above the counter (`near`), and
+    /// not that it is less (`paid`).
     ///
-    /// It asks that the words were those of the draw (`reached`), that no refill came between (`at`), and that the new mark is a word (`word`).
-    pub fn publish(&self, k: &mut Keeper, dry: Dry)
+    /// It asks that the words are those of the draw (`made`), that the seat has looked at neither since (`found`), that no refill came between (`at`),
+    /// and that the new mark is a word (`word`).
+    pub fn publish(&self, k: &mut Keeper, d: &mut Drawer, dry: Dry)
         requires made { k.old.which ≡ self.now.which }
-        requires reached { dry.which ≡ self.now.which }
+        requires drawer_made { d.old.which ≡ self.now.which }
+        requires found { IsFoundBy dry d.old }
         requires at { dry.mark ≡ k.old.mark }
         requires word { IsWord (dry.mark + 256) }
 
         ensures value { k.new ≡ record k.old { mark = k.old.mark + 256 } }
+        ensures owes { d.new ≡ record d.old { owes = max d.old.owes (dry.next + 1) } }
     {
-        let Dry { mark, seat, .. } = dry;
+        let mark = dry.mark();
         let words = &self.table.shared;
-        words.join_seat::<Seats>(&mut k.seat, seat);
+        let promise = words.split_seat::<Promises>(&mut d.seat);
+        words.join_seat::<Seats>(&mut k.seat, promise);
         words.store::<Publishes>(&mut k.seat, MARK, mark + BLOCK);
+        let told = words.split_seat::<Tells>(&mut k.seat);
+        words.join_seat::<Seats>(&mut d.seat, told);
     }
 
     /// Moves the mark up to SEQ 0 of the IV Index `iv`, and then the counter, unless it is there or above. What it passes over is never drawn.
@@ -227,6 +241,7 @@ impl Numbers {
         ensures known { d.new.known ≡ d.old.known ++ other.known }
         ensures informed { d.new.informed ≡ d.old.informed ++ other.informed }
         ensures parts { d.new.parts ≡ d.old.parts + other.parts }
+        ensures owes { d.new.owes ≡ max d.old.owes other.owes }
     {
         let Drawer { seat } = other;
         self.table.shared.join_seat::<Seats>(&mut d.seat, seat);
@@ -246,6 +261,8 @@ impl Numbers {
         ensures mark { result.mark ≡ k.mark }
         // So at most 256 of the numbers below the mark neither were drawn nor passed over.
         ensures near { result.mark ≤ result.next + 256 }
+        // And where all seats were joined, and none owes a draw, fewer: so no block was published behind which nothing was drawn or passed over.
+        ensures paid { d.parts ≡ 1024 → d.owes ≡ 0 → result.mark < result.next + 256 }
         ensures advanced { All (λ a. a.1 ≤ result.next) k.advances }
         ensures firsts { All (λ a. seq_of a.1 ≡ 0) k.advances }
 

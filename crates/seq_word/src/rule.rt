@@ -1,17 +1,18 @@
 //! The rule of the two words, as `atomic_table` takes it. The definitions stand in `specs/Rule.antt`.
 //!
-//! There are ten kinds of atomic step. Each changes the view of the seat that takes it, and a join that of the other seat too.
+//! There are eleven kinds of atomic step. Each changes the view of the seat that takes it, and a join that of the other seat too.
 //!
 //! | Step | Seat | What its view notes |
 //! |---|---|---|
 //! | a load of the mark | a drawer | the mark, among its looks |
-//! | a load of the counter | a drawer | the word, among its looks |
-//! | a compare-exchange on the counter, only from the word last seen there to the next | a drawer | won: the word as drawn, and what it left in the counter; lost: the word found, among its looks |
-//! | a store on the mark, at most a block above a word that was seen in the counter | the keeper | the mark as its own |
+//! | a load of the counter | a drawer | the word, among its looks; where it owed no word above that, it owes none any more |
+//! | a compare-exchange on the counter, only from the word last seen there to the next | a drawer | won: the word as drawn, and what it left in the counter, and that it owes none; lost: the word found, as by a load |
+//! | a store on the mark, less than a block above what the keeper was promised | the keeper | the mark as its own |
 //! | a store on the mark, of the word to move to | the keeper | the mark as its own, and that it moves |
-//! | a fetch_max on the counter, to the mark | the keeper | the word found, and the one moved to; it doesn't move any more |
+//! | a fetch_max on the counter, to the mark | the keeper | the word found, and the one moved to, which is as good as promised; it doesn't move any more |
 //! | a split | a drawer | it has one part less; the new seat has that, notes all that was drawn here, or noted, and knows the looks here, or known. At the start the keeper's seat hands all its parts to the first drawer |
-//! | a split of a witness | a drawer | nothing; the new seat knows the looks here, or known, and can't draw |
+//! | a split of a promise | a drawer | that it owes the word above the one that it found in the counter last; the new seat knows that this is promised, and can't draw |
+//! | a split of the mark | the keeper | nothing; the new seat knows that the mark isn't below this one, and can't draw |
 //! | a split of the moves | the keeper | nothing; the new seat knows where the counter was moved to, and can't draw |
 //! | a join | a drawer, or the keeper | all that the other seat knows, and its parts; at the end also the keeper's mark. The other seat is left knowing nothing |
 #![tactic(auto)]
@@ -53,6 +54,12 @@ pub struct View {
     pub known: LinkedList<Look>,
     /// Where the keeper had moved the counter to, as this seat was told.
     pub informed: LinkedList<u64>,
+    /// The word that the counter is to reach yet by what this seat does; 0 where it owes none.
+    pub owes: u64,
+    /// A word that the counter has reached, or that some seat owes, as this seat was told.
+    pub promised: u64,
+    /// A word that the mark isn't below, as this seat was told.
+    pub marked: u64,
 }
 
 /// What both words are when the table is made.
@@ -141,15 +148,26 @@ impl Split<View> for Opens {
     ghost right = { first_drawer };
 }
 
-/// How a seat that shows what was seen is cut off a drawer's.
-pub struct Witnesses;
+/// How a seat that tells what it will owe is cut off a drawer's.
+pub struct Promises;
 
-impl Split<View> for Witnesses {
-    ghost use Rattle.seq_word.specs.Rule.{witness_of};
+impl Split<View> for Promises {
+    ghost use Rattle.seq_word.specs.Rule.{owing, promise_of};
+
+    ghost left = { owing };
+
+    ghost right = { promise_of };
+}
+
+/// How a seat that tells where the mark is is cut off the keeper's.
+pub struct Tells;
+
+impl Split<View> for Tells {
+    ghost use Rattle.seq_word.specs.Rule.{mark_of};
 
     ghost left = { λ v. v };
 
-    ghost right = { witness_of };
+    ghost right = { mark_of };
 }
 
 /// How a seat that tells where the counter was moved to is cut off the keeper's.

@@ -156,7 +156,7 @@ fn drawn<R: Threads + Wait + Sync>(rt: &R, alloc: Global, threads: usize) -> [u6
     if dry.mark() != FIRST {
         return [0; 2];
     }
-    numbers.publish(&mut keeper, dry);
+    numbers.publish(&mut keeper, &mut seat, dry);
     let count = written(rt, alloc, &numbers, &mut seat, threads);
     let closed = numbers.close(keeper, seat);
     [closed.next() - FIRST, count as u64]

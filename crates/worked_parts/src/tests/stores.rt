@@ -77,7 +77,7 @@ fn reserved<F: Flash>(alloc: Global, flash: &mut F, store: Store) -> Option<Pair
     if dry.mark() != FIRST_NUMBER {
         return None;
     }
-    reserve.refill(&numbers, flash, dry).ok()?;
+    reserve.refill(&numbers, flash, &mut drawer, dry).ok()?;
     numbers.try_draw(&mut drawer).ok()
 }
 

@@ -62,6 +62,7 @@ returns-in-Ok-clause-writes g c = record {
   most_erases = c.mount.ensures.most_erases;
   most_octets = c.mount.ensures.most_octets;
   most_reads = c.mount.ensures.most_reads;
+  once = c.mount.ensures.once;
 }
 
 pub returns-in-Err-clause-writes : goal.returns-in-Err-clause-writes
@@ -71,6 +72,7 @@ returns-in-Err-clause-writes g c = record {
   most_erases = c.mount.ensures.most_erases;
   most_octets = c.mount.ensures.most_octets;
   most_reads = c.mount.ensures.most_reads;
+  once = c.mount.ensures.once;
 }
 
 pub returns-in-Err-clause-reset : goal.returns-in-Err-clause-reset

@@ -35,7 +35,7 @@ returns-in-Ok-clause-ok g c =
     (opened_before node.over r t store.persist.elements said
     (says.lpn ∙ ap (λ (s : StoreView). no_friend s.persist.unicast s.persist.elements) (sym says.store))) says.published says.advances (ap (λ (s : StoreView). s.persist.elements) (sym says.store))
     (omega (arith, c.requires.began, c.mount_node.ensures.frame.later, ap (λ (x : Setting). x.faults) c.mount_node.ensures.frame.setting))
-    worn.used worn.taken_up worn.costs c.mount_node.ensures.writes.most_reads in
+    worn.used worn.taken_up worn.costs c.mount_node.ensures.writes.most_reads c.in_ok-store.ensures.no_fault in
     record {
       over = node.over;
       read = node.read;

@@ -187,7 +187,7 @@ returns-clause-kept g c first over stands =
     } in
     let few : length i.history.entries < 2 ^ 32 - 1 = subst (λ (l : List Entry). length l < 2 ^ 32 - 1) c.room.ensures.entries c.in_ok-draft.ensures.few in
     stands_made m event plan memory r log entry old new made c.node_law.ensures.kept c.low_power_state_law.ensures.goes_on first over
-    (subst (λ (v : LowPowerNode). Stands first old over v) (sym c.self.view_is) stands) c.if-self.false (omega (arith, few)) c.store_records.ensures.leaves.frame c.store_records.ensures.leaves.reads
+    (subst (λ (v : LowPowerNode). Stands first old over v) (sym c.self.view_is) stands) c.if-self.false (omega (arith, few)) c.store_records.ensures.leaves.frame c.store_records.ensures.leaves.reads c.in-Ok.ensures.leaves.no_fault
 
 pub returns-in-Err-clause-refused : goal.returns-in-Err-clause-refused
 returns-in-Err-clause-refused g c =
@@ -241,4 +241,4 @@ returns-in-Err-clause-kept g c first over stands =
     (stands_closed c.node_law.ensures.kept c.low_power_state_law.ensures.goes_on m event plan memory r log old new plans may c.room.ensures.entries c.room.ensures.moves c.room.ensures.taken rose first over
     (subst (λ (v : LowPowerNode). Stands first old over v) (sym c.self.view_is) stands) c.if-self.false c.store_records.ensures.leaves.frame
     (λ before held image is. subst (λ (l : List StoreRecord). IsFront before l image) records (c.store_records.ensures.fronts before held image is)) c.store_records.ensures.durable
-    (subst (λ (l : List StoreRecord). CostsAtMost i.reserve.store.journal.used (length l) (count_of old) (count_of new)) records c.store_records.ensures.most_wear) c.store_records.ensures.leaves.reads)
+    (subst (λ (l : List StoreRecord). CostsAtMost i.reserve.store.journal.used (length l) (count_of old) (count_of new)) records c.store_records.ensures.most_wear) c.store_records.ensures.leaves.reads c.store_records.ensures.leaves.once)

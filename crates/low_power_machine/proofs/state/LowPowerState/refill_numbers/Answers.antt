@@ -62,7 +62,7 @@ returns-in-Ok-clause-kept g c first over stands =
     subst (λ (item : StoreRecord). IsStoreOf new c.refill.new.self.store (past.records ++ item ∷ [])) (fill_said past.records i.reserve.store.persist (fill_of (config_in i.reserve.store.persist)) refl said) (puts.kept past.records h.store) in
     refill_stands low_power_role IsBefore (low_power_kind c.node_law.ensures.kept) m first old new over s c.if-self.false c.refill.new.self ready.published seq kept
     (fill_meaning past.records i.reserve.store.persist c.refill.new.self.store.persist said puts.value) c.refill.ensures.published
-    (ap (λ (k : KeeperView). k.advances) (c.in-Ok.ensures.filled seen)) c.refill.ensures.leaves.frame (c.in-Ok.ensures.wear seen) c.refill.ensures.leaves.reads
+    (ap (λ (k : KeeperView). k.advances) (c.in-Ok.ensures.filled seen)) c.refill.ensures.leaves.frame (c.in-Ok.ensures.wear seen) c.refill.ensures.leaves.reads c.in-Ok.ensures.leaves.no_fault
 
 pub returns-in-Err-clause-refused : goal.returns-in-Err-clause-refused
 returns-in-Err-clause-refused g c =
@@ -101,4 +101,4 @@ returns-in-Err-clause-kept g c first over stands =
     subst (λ (item : StoreRecord). IsCutIn new past.records (item ∷ []) c.refill.new.self.keeper.mark) (fill_said past.records i.reserve.store.persist (fill_of (config_in i.reserve.store.persist)) refl h.before.node.meaning)
     (put_cut new past.records (fill_of (config_in i.reserve.store.persist)) c.refill.new.self.keeper.mark (c.refill.ensures.leaves.frame.honest ∙ s.life.node.honest)
     (λ image is. leaves.each image (g.met.F.Flash.counts_now c.refill.new.flash _ image leaves.later is)) (c.refill.ensures.durable past.records h.store)) in
-    refill_stops low_power_role IsBefore (low_power_kind c.node_law.ensures.kept) m first old new over s c.if-self.false c.refill.new.self ready.published seq cut (c.in-Err.ensures.fails seen ready.usable).cause.rose c.refill.ensures.leaves.frame c.refill.ensures.most_wear c.refill.ensures.leaves.reads
+    refill_stops low_power_role IsBefore (low_power_kind c.node_law.ensures.kept) m first old new over s c.if-self.false c.refill.new.self ready.published seq cut (c.in-Err.ensures.fails seen ready.usable).cause.rose c.refill.ensures.leaves.frame c.refill.ensures.most_wear c.refill.ensures.leaves.reads c.refill.ensures.leaves.once

@@ -34,7 +34,7 @@ returns-in-Ok-clause-ok g c =
     opened_stands (node_role node_layers) IsBefore (found_of old) new node.over r t store.persist.elements (subst (λ (s : StoreView). IsStoreOf new s node.over) (sym says.store) node.kept) said
     (opened_before node.over r t store.persist.elements said (says.tables node.over node.node.meaning)) says.published says.advances (ap (λ (s : StoreView). s.persist.elements) (sym says.store))
     (omega (arith, c.requires.began, c.mount_node.ensures.frame.later, ap (λ (x : Setting). x.faults) c.mount_node.ensures.frame.setting))
-    worn.used worn.taken_up (subst (λ (s : StoreView). CostsAndUses worn.used 0 (count_of old) (count_of new) s.journal.used) (sym says.store) worn.costs) c.mount_node.ensures.writes.most_reads in
+    worn.used worn.taken_up (subst (λ (s : StoreView). CostsAndUses worn.used 0 (count_of old) (count_of new) s.journal.used) (sym says.store) worn.costs) c.mount_node.ensures.writes.most_reads c.in_ok-store.ensures.no_fault in
     record {
       over = node.over;
       read = node.read;

@@ -180,7 +180,7 @@ returns-in-Flash-clause-kept g c first over stands =
     let d = of_flash g.F.Flash.chip c.args.event.now parts c.handle.new.parts c.args.flash.now c.handle.new.flash c.in-Err.stop c.in-Err.ensures.stopped c.in-Flash.is in
     subst (λ (e : Event). Stands first new over (machine_of c.handle.new.parts i.fills true (H.OfEvent e) i.elements)) (sym c.of.ensures.value)
     (stands_stopped c.ties_law.ensures.laws parts c.handle.new.parts c.args.event.now old new d i.fills i.closed i.hand i.elements first over
-    (subst (λ (v : NodeMachine). Stands first old over v) (sym (same ∙ c.self.view_is)) stands) c.if-self.false c.handle.ensures.frame c.handle.ensures.unread)
+    (subst (λ (v : NodeMachine). Stands first old over v) (sym (same ∙ c.self.view_is)) stands) c.if-self.false c.handle.ensures.frame c.handle.ensures.unread c.handle.ensures.once)
 
 pub returns-in-Flash-clause-refused : goal.returns-in-Flash-clause-refused
 returns-in-Flash-clause-refused g c =

@@ -1,5 +1,5 @@
-use Rattle.std.proofs.Common.{◌≡◌, ℕ, ◌≤◌, ◌++◌, true, sym, ap, ◌∙◌, subst, arith}
-use Rattle.std.specs.Prelude.{All}
+use Rattle.std.proofs.Common.{◌≡◌, ℕ, ◌≤◌, ◌++◌, true, false, sym, ap, ◌∙◌, subst, arith}
+use Rattle.std.specs.Prelude.{All, cond}
 use Rattle.std.proofs.lemmas.List.{append-nil}
 use Rattle.seq_word.specs.Rule.{IsEndOf, times, once_below, passed_over}
 use Rattle.seq_word.proofs.Sums.{distinct}
@@ -50,3 +50,11 @@ returns-clause-ends c = λ whole.
     subst (λ o. All (IsEndOf o c.join_seat.new.seat.me.0.drawn) c.join_seat.new.seat.me.0.looks) (ap (λ n. n.opened) c.self.view_is) (last.found (keeper_is c) (parts_are c whole)) in
     subst (λ ws. All (IsEndOf c.args.self.opened ws) c.args.d.looks) (drawn_is c)
     (subst (All (IsEndOf c.args.self.opened c.join_seat.new.seat.me.0.drawn)) (looks_is c) at)
+
+still_is : (c : goal.After-free) → c.join_seat.new.seat.me.0.lifted ≡ false
+still_is c = ap (λ m. m.0.lifted) c.join_seat.ensures.2 ∙ ap (λ b. cond b c.k.inside.seat.me.0.lifted c.d.inside.seat.me.0.lifted) c.k.invariant.0.keeps ∙ c.k.invariant.0.still
+
+pub returns-clause-paid : goal.returns-clause-paid
+returns-clause-paid c = λ whole none.
+    let last = ends _ _ _ _ _ _ _ c.close_with-words.ensures.values.2 c.word-next.ensures c.word-mark.ensures in
+    last.paid (keeper_is c) (parts_are c whole) (still_is c) (omega (arith, ap (λ m. m.0.owes) c.join_seat.ensures.2, c.k.invariant.0.owes, ap (λ d. d.owes) c.d.view_is, none))

@@ -1,29 +1,11 @@
 use Rattle.std.proofs.Common.{[], ◌∷◌, ◌++◌, append_assoc, refl, sym, ap, subst, ◌∙◌, arith}
-use Rattle.std.specs.List.{Contains}
-use Rattle.std.proofs.lemmas.List.Elements.{Contains-append_right}
-use Rattle.seq_word.specs.Rule.{nobody}
 use Rattle.seq_word.specs.declared.looks.Look.TheVariants as saw
-use Rattle.seq_word.proofs.Moves.{draws, witnesses}
+use Rattle.seq_word.proofs.Moves.{draws}
 use Rattle.seq_word.proofs.numbers.Numbers.try_draw.Goals as goal
-
-pub split_seat-seat-requires : goal.split_seat-seat-requires
-split_seat-seat-requires c =
-    let own = ap (λ d. d.which) c.d.view_is ∙ c.look-mark.ensures.unchanged.which ∙ c.requires.made ∙ sym (ap (λ n. n.which) c.self.view_is) in
-    (own, omega (arith, c.self.invariant.0), witnesses _ _ _ c.d.invariant.0.draws)
-
-pub invariant_of-result : goal.invariant_of-result
-invariant_of-result c =
-    let seen = saw.Counter c.look-mark.result.next in
-    let split = ap (λ m. m.0) c.split_seat-seat.ensures.4 in
-    let last = Contains-append_right c.args.d.now.looks (saw.Mark c.look-mark.result.mark ∷ seen ∷ []) seen (1, omega arith, refl) in
-    let looked = subst (λ l. Contains l seen) (sym (ap (λ d. d.looks) c.d.view_is ∙ c.look-mark.ensures.looks)) last in
-    let known = subst (λ l. Contains l seen) (sym (ap (λ v. v.known) split)) (Contains-append_right c.d.inside.seat.me.0.known c.d.inside.seat.me.0.looks seen looked) in
-    (split ∙ ap (λ l. record nobody { known = l }) (sym (ap (λ v. v.known) split)), ap (λ m. m.1) c.split_seat-seat.ensures.4, known, c.if-next-mark.true)
 
 pub returns-then-next-mark-clause-cause : goal.returns-then-next-mark-clause-cause
 returns-then-next-mark-clause-cause c =
-    let split = c.split_seat-seat.ensures in
-    (ap (λ m. m.0.looks) split.2 ∙ ap (λ d. d.looks) c.d.view_is ∙ c.look-mark.ensures.looks, c.if-next-mark.true, omega (arith, c.pair_of-pair.ensures.seq, c.look-mark.ensures.word.1), split.3 ∙ sym split.0)
+    (c.look-mark.ensures.looks, c.if-next-mark.true, omega (arith, c.pair_of-pair.ensures.seq, c.look-mark.ensures.word.1), ap (λ s. s.table_id) c.of-by.ensures ∙ ap (λ d. d.which) c.d.view_is)
 
 pub compare_exchange-found-requires : goal.compare_exchange-found-requires
 compare_exchange-found-requires c =
