@@ -230,8 +230,8 @@ uint32_t meshnode_node_line(struct meshnode *node, const uint8_t *line, meshnode
 /* Takes the next write, in their order. `erased` tells whether it is an erase of a sector: then the 4,096 octets from `at` on, the sector's first,
  * are to become ff, `size` is 4,096, and `octets` is as it was, however long it is. Else the octets are put into the front of `octets`, `size`
  * tells how many, and `at` the offset in the image from which on they are to stand. Made one after another on the image of before, the writes
- * give the image that the node reads now; the caller makes each durable before the next, and all before the report leaves. A write lies within
- * one sector; one that is no erase only clears bits. Where `octets` is too short for one `size` tells how many it must have,
+ * give the image that the node reads now; the caller makes each durable before the next, and all before the report leaves. A write has an octet at
+ * least and lies within one sector; one that is no erase only clears bits. Where `octets` is too short for one `size` tells how many it must have,
  * and the write stays: 4,096 always do, and 31 as the code stands. */
 uint32_t meshnode_node_write(struct meshnode *node, uint32_t *at, uint8_t *octets, meshnode_size octets_length, meshnode_size *size, bool *erased);
 

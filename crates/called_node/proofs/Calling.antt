@@ -7,7 +7,7 @@ use Rattle.std.proofs.lemmas.List.Elements.{All-map}
 use Rattle.std.specs.Prelude.{All}
 use Rattle.event_definitions.specs.Role.{Role}
 use Rattle.file_flash.specs.Handed.{IsHandedOut}
-use Rattle.file_flash.specs.Noted.{AreFronts, AreOnChip, Put, put_of, written}
+use Rattle.file_flash.specs.Noted.{AreFronts, AreOnChip, Put, octets_given, put_of, written}
 use Rattle.file_flash.specs.declared.noted.Write.{Write}
 use Rattle.file_flash.proofs.Fronts.{fronts_in}
 use Rattle.flash_model.specs.Chip.{Chip, Setting}
@@ -31,7 +31,7 @@ few_puts writes called n few less = omega (arith, few less, length-map writes pu
 
 -- where writes were handed out, what was counted is what had been counted then
 pub none_counted : {F : Type 0} (chip : F → Chip) (old new : HeldView F) → IsHandedOut (chip old.node.flash) (chip new.node.flash) → NoneCounted chip new
-none_counted chip old new handed = ap (λ (s : Setting). s.called) handed.setting ∙ sym handed.changes
+none_counted chip old new handed = (ap (λ (s : Setting). s.called) handed.setting ∙ sym handed.changes, ap (λ (s : Setting). s.programmed) handed.setting ∙ sym handed.octets)
 
 -- and the next writes begin then
 pub moment_now : (old new : Chip) → IsHandedOut old new → new.setting.moment ≡ new.moment
@@ -54,12 +54,15 @@ module _ {F : Type 0} (role : Role) (image : List ℕ → Type 0) (chip : F → 
         → HasLived role image chip mid (phases ++ events ∷ []) (told ++ did ∷ [])
     pub saved : (chip mid.node.flash).setting.saved ≡ (chip old.node.flash).setting.saved
     pub called : (chip mid.node.flash).setting.called ≡ (chip old.node.flash).setting.called
+    pub programmed : (chip mid.node.flash).setting.programmed ≡ (chip old.node.flash).setting.programmed
     pub moment : (chip mid.node.flash).setting.moment ≡ (chip old.node.flash).setting.moment
     pub writes : written puts (chip mid.node.flash).setting.saved ≡ (chip mid.node.flash).now
     pub on_chip : AreOnChip puts (chip mid.node.flash).setting.saved
     pub fronts : AreFronts puts (chip mid.node.flash).setting.saved ((chip mid.node.flash).since (chip mid.node.flash).setting.moment)
     pub few : (chip mid.node.flash).changes < 4294967295
         → (chip mid.node.flash).setting.called + length puts ≤ (chip mid.node.flash).changes
+    pub lean : (chip mid.node.flash).octets < 4294967295
+        → (chip mid.node.flash).setting.programmed + octets_given puts ≤ (chip mid.node.flash).octets
     pub handed : IsHandedOut (chip mid.node.flash) (chip new.node.flash)
     pub frame : new ≡ record mid { node = record mid.node { flash = new.node.flash } }
     pub stays : (phases : List (List (List Event))) (told : List PhaseDid) → HasLived role image chip mid phases told
@@ -78,7 +81,11 @@ module _ {F : Type 0} (role : Role) (image : List ℕ → Type 0) (chip : F → 
 
     few_more : NoneCounted chip old → (chip new.node.flash).changes < 4294967295
         → (chip old.node.flash).changes + length puts ≤ (chip new.node.flash).changes
-    few_more counted less = omega (arith, b.few (omega (arith, b.handed.changes, less)), b.called, counted, b.handed.changes)
+    few_more counted less = omega (arith, b.few (omega (arith, b.handed.changes, less)), b.called, counted.0, b.handed.changes)
+
+    lean_more : NoneCounted chip old → (chip new.node.flash).octets < 4294967295
+        → (chip old.node.flash).octets + octets_given puts ≤ (chip new.node.flash).octets
+    lean_more counted less = omega (arith, b.lean (omega (arith, b.handed.octets, less)), b.programmed, counted.1, b.handed.octets)
 
     pub phase_done : (waiting : F → Option (List Put)) (text : List ℕ) → NoneCounted chip old → Some puts ≡ waiting mid.node.flash → waiting new.node.flash ≡ Some []
         → text ≡ text_of did → IsPhaseDone role image chip waiting events old new puts text
@@ -95,6 +102,7 @@ module _ {F : Type 0} (role : Role) (image : List ℕ → Type 0) (chip : F → 
           (subst (λ (l : List ℕ). AreFronts puts l ((chip mid.node.flash).since (chip mid.node.flash).setting.moment)) b.saved b.fronts));
       moment = moment_now (chip mid.node.flash) (chip new.node.flash) b.handed;
       few = few_more counted;
+      lean = lean_more counted;
       counted = none_counted chip mid new b.handed;
       taken_from = mid;
       frame = b.frame;

@@ -5,7 +5,7 @@ use Rattle.std.proofs.lemmas.List.Elements.{All-map}
 use Rattle.std.specs.Prelude.{All, IsSomeAnd}
 use Rattle.event_definitions.specs.Role.{Role}
 use Rattle.file_flash.specs.Handed.{IsHandedOut}
-use Rattle.file_flash.specs.Noted.{AreFronts, AreOnChip, Put, written}
+use Rattle.file_flash.specs.Noted.{AreFronts, AreOnChip, Put, octets_given, written}
 use Rattle.flash_model.specs.Chip.{Chip}
 use Rattle.live_lines.specs.Saying.{line_says, phase_of}
 use Rattle.live_lines.specs.declared.saying.Saying.{Saying}
@@ -61,6 +61,10 @@ module _ {F : Type 0} where
       → now.life ≡ Some life → g.said.life ≡ life
   same_life text now lists life g is = some_same g.said.life life (sym g.said.is ∙ is)
 
+  -- it has one list, since the node has one bearer
+  pub one_list : (text : List ℕ) (now : CalledView F) (lists : List (Vec Event Global)) → IsGiven text now (map (λ v. v.items) lists) → length lists ≡ 1
+  one_list text now lists g = sym (length-map lists (λ v. v.items)) ∙ ap (λ (l : List (List Event)). length l) g.lists_are
+
   pub events_again : (text : List ℕ) (now : CalledView F) (lists : List (Vec Event Global)) (life : HeldView F)
       → IsGiven text now (map (λ v. v.items) lists) → now.life ≡ Some life → All (λ v. AreEvents life.node.machine.elements v.items) lists
   events_again text now lists life g is =
@@ -104,8 +108,9 @@ module _ {F : Type 0} (role : Role) (image : List ℕ → Type 0) (chip : F → 
       → AreOnChip writes (chip life.node.flash).setting.saved
       → AreFronts writes (chip life.node.flash).setting.saved ((chip life.node.flash).since (chip life.node.flash).setting.moment)
       → ((chip life.node.flash).changes < 4294967295 → (chip life.node.flash).setting.called + length writes ≤ (chip life.node.flash).changes)
+      → ((chip life.node.flash).octets < 4294967295 → (chip life.node.flash).setting.programmed + octets_given writes ≤ (chip life.node.flash).octets)
       → IsBegun role image chip waiting life now
-  begun_is life begun writes erases now is usable begins held handed frame noted none makes kinds fronts few = record {
+  begun_is life begun writes erases now is usable begins held handed frame noted none makes kinds fronts few lean = record {
     begun = begun;
     is = ap (λ (n : CalledView F). n.life) is;
     lived = held [] [] begins;
@@ -122,6 +127,9 @@ module _ {F : Type 0} (role : Role) (image : List ℕ → Type 0) (chip : F → 
     few = λ less.
         let size : length now.writes ≡ length writes = ap (λ (n : CalledView F). length n.writes) is in
         omega (arith, few (omega (arith, handed.changes, less)), size, handed.changes);
+    lean = λ less.
+        let size : octets_given now.writes ≡ octets_given writes = ap (λ (n : CalledView F). octets_given n.writes) is in
+        omega (arith, lean (omega (arith, handed.octets, less)), size, handed.octets);
     counted = none_counted chip life begun handed;
     no_report = ap (λ (n : CalledView F). n.report) is;
   }

@@ -3,7 +3,7 @@ use Rattle.std.specs.Prelude.{◌≡◌, ℕ, ◌+◌, ◌<◌, ◌≤◌, Bool,
 use Rattle.std.specs.List.{flat_map}
 use Rattle.event_definitions.specs.Role.{Role}
 use Rattle.file_flash.specs.Handed.{IsHandedOut}
-use Rattle.file_flash.specs.Noted.{AreFronts, AreOnChip, Put, written}
+use Rattle.file_flash.specs.Noted.{AreFronts, AreOnChip, Put, octets_given, written}
 use Rattle.file_flash.specs.declared.noted.Write.{Write}
 use Rattle.file_flash.specs.declared.noted.Write.TheVariants as W
 use Rattle.flash_model.specs.Chip.{Chip}
@@ -75,9 +75,11 @@ module _ {F : Type 0} where
     pub fits : All (AreEvents said.life.node.machine.elements) lists
 
 module _ {F : Type 0} (chip : F → Chip) where
-  -- no program or erase call was counted since the writes of its flash were handed out last
+  -- no program or erase call was counted since the writes of its flash were handed out last, nor octets of one
   abbrev pub NoneCounted : HeldView F → Type 0
-  NoneCounted life = (chip life.node.flash).setting.called ≡ (chip life.node.flash).changes
+  NoneCounted life =
+      ((chip life.node.flash).setting.called ≡ (chip life.node.flash).changes)
+      × ((chip life.node.flash).setting.programmed ≡ (chip life.node.flash).octets)
 
 module _ {F : Type 0} (role : Role) (image : List ℕ → Type 0) (chip : F → Chip) where
   -- what was given to a life and told of it, as `HeldLife` has it
@@ -98,7 +100,8 @@ module _ {F : Type 0} (role : Role) (image : List ℕ → Type 0) (chip : F → 
   -- A life did one phase more, of these events. The text is that of what it did. The writes, made in their order on what is there once all writes
   -- of before were made, give what is read now, each on a chip too, where a program call clears bits alone (`on_chip`). Each front of them, with its
   -- last write torn or whole, is content that a power cut might have left of this flash since the writes of before were handed out (`fronts`).
-  -- They are at most so many as program and erase calls were counted in the phase (`few`), as long as the count isn't ffffffff. Some flash that
+  -- They are at most so many as program and erase calls were counted in the phase (`few`), as long as the count isn't ffffffff, and those that are no
+  -- erase have at most so many octets as program calls were given in it (`lean`), with the same proviso. Some flash that
   -- reads the same could have noted them, in that order. None waits any more.
   pub record IsPhaseDone (events : List (List Event)) (old new : HeldView F) (writes : List Put) (text : List ℕ) : Type 0 where
     pub did : PhaseDid
@@ -114,6 +117,9 @@ module _ {F : Type 0} (role : Role) (image : List ℕ → Type 0) (chip : F → 
     pub moment : (chip new.node.flash).setting.moment ≡ (chip new.node.flash).moment
     pub few : (chip new.node.flash).changes < 4294967295
         → (chip old.node.flash).changes + length writes ≤ (chip new.node.flash).changes
+    -- so it is of their octets
+    pub lean : (chip new.node.flash).octets < 4294967295
+        → (chip old.node.flash).octets + octets_given writes ≤ (chip new.node.flash).octets
     pub counted : NoneCounted chip new
     pub taken_from : HeldView F
     pub frame : new ≡ record taken_from { node = record taken_from.node { flash = new.node.flash } }
@@ -136,7 +142,8 @@ module _ {F : Type 0} (role : Role) (image : List ℕ → Type 0) (chip : F → 
   -- A node as calls was made of this life, which is at its beginning. The writes, made on what is there, give what is read now, each on a chip too
   -- (`on_chip`). Each front of them, with its last write torn or whole, is content that a power cut might have left since the writes of its flash
   -- were handed out last, or since it was made (`fronts`). They are those that the flash of this life had noted, in that order, and at most so
-  -- many as program and erase calls were counted since then, as long as the count isn't ffffffff (`few`). None waits any more.
+  -- many as program and erase calls were counted since then, as long as the count isn't ffffffff (`few`); those that are no erase have at most so
+  -- many octets as program calls were given since then, with the same proviso (`lean`). None waits any more.
   pub record IsBegun (life : HeldView F) (now : CalledView F) : Type 0 where
     pub begun : HeldView F
     pub is : now.life ≡ Some begun
@@ -153,5 +160,8 @@ module _ {F : Type 0} (role : Role) (image : List ℕ → Type 0) (chip : F → 
     pub moment : (chip begun.node.flash).setting.moment ≡ (chip begun.node.flash).moment
     pub few : (chip begun.node.flash).changes < 4294967295
         → (chip life.node.flash).setting.called + length now.writes ≤ (chip begun.node.flash).changes
+    -- so it is of their octets
+    pub lean : (chip begun.node.flash).octets < 4294967295
+        → (chip life.node.flash).setting.programmed + octets_given now.writes ≤ (chip begun.node.flash).octets
     pub counted : NoneCounted chip begun
     pub no_report : now.report ≡ []

@@ -143,8 +143,8 @@ impl<M: Machine> CalledNode<M, NotedFlash> {
         CalledNode::begun(alloc, life, writes)
     }
 
-    /// The next write that isn't taken yet: octets for an offset of the image, within one sector of its 65,536 octets, or an erase of a sector. Whoever
-    /// takes it makes it durable before the ones behind it, and all of them before the report leaves.
+    /// The next write that isn't taken yet: octets, one at least, for an offset of the image, within one sector of its 65,536 octets, or an erase of a
+    /// sector. Whoever takes it makes it durable before the ones behind it, and all of them before the report leaves.
     pub fn next_write(&self) -> Option<&Write>
         ensures value { MatchOption result (self.now.writes ≡ [])
             (λ w. (rest : List Put) × (self.now.writes ≡ put_of w.now ∷ rest)) }

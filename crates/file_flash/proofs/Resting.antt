@@ -62,8 +62,8 @@ module _ (m0 m2 g0 g1 g2 : Chip) (failed fails : Bool) (saved after : Saved) (is
   framed honest faults later past = record {
     honest = honest;
     steady = refl;
-    setting = ap (λ (n : ℕ). record { faults = n; arm = None; saved = after.octets; moment = after.moment; called = after.called; cycles = 0 }) faults
-        ∙ ap (λ (s : Saved). record { faults = m0.setting.faults; arm = None; saved = s.octets; moment = s.moment; called = s.called; cycles = 0 }) is;
+    setting = ap (λ (n : ℕ). record { faults = n; arm = None; saved = after.octets; moment = after.moment; called = after.called; programmed = after.programmed; cycles = 0 }) faults
+        ∙ ap (λ (s : Saved). record { faults = m0.setting.faults; arm = None; saved = s.octets; moment = s.moment; called = s.called; programmed = s.programmed; cycles = 0 }) is;
     later = later;
     sure = λ no. absurd (true≢false (sym no));
     past = remembers past;

@@ -33,7 +33,7 @@ backed_chip mirror goal failed saved = record {
   sure = false;
   faults = mirror.faults;
   steady = false;
-  setting = record { faults = mirror.setting.faults; arm = None; saved = saved.octets; moment = saved.moment; called = saved.called; cycles = 0 };
+  setting = record { faults = mirror.setting.faults; arm = None; saved = saved.octets; moment = saved.moment; called = saved.called; programmed = saved.programmed; cycles = 0 };
   changes = mirror.changes;
   erases = mirror.erases;
   octets = mirror.octets;

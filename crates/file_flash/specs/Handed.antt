@@ -4,7 +4,7 @@ use Rattle.flash_model.specs.Chip.{Chip}
 
 -- It is as it was, but that its setting is one of this moment: saved is what is read.
 pub record IsHandedOut (old new : Chip) : Type 0 where
-  pub setting : new.setting ≡ record old.setting { saved = old.now; moment = old.moment; called = old.changes }
+  pub setting : new.setting ≡ record old.setting { saved = old.now; moment = old.moment; called = old.changes; programmed = old.octets }
   pub now : new.now ≡ old.now
   pub images : (c : List ℕ) → new.images c → old.images c
   pub left_over : (c : List ℕ) → old.images c → new.images c

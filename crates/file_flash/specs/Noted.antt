@@ -1,5 +1,5 @@
 -- Writes that a place only notes, for its caller to make.
-use Rattle.std.specs.Prelude.{◌≡◌, ℕ, ◌+◌, ◌*◌, ◌%◌, ◌<◌, ◌≤◌, Bool, true, false, List, [], ◌∷◌, ◌++◌, length, replicate, Option, Some, None, ⊤}
+use Rattle.std.specs.Prelude.{◌≡◌, ℕ, ◌+◌, ◌*◌, ◌%◌, ◌<◌, ◌≤◌, Bool, true, false, List, [], ◌∷◌, ◌++◌, length, replicate, if◌then◌else◌, Option, Some, None, ⊤}
 use Rattle.flash_model.specs.Octets.{IsTorn, blanked, programmed}
 use Rattle.file_flash.specs.declared.noted.Write.{Write}
 use Rattle.file_flash.specs.declared.noted.Write.TheVariants as W
@@ -44,7 +44,8 @@ abbrev pub AreOnChip : List Put → List ℕ → Type 0
 AreOnChip [] old = ⊤
 AreOnChip (p ∷ puts) old = (on_chip p.erase p.at p.octets old ≡ put_at p.at p.octets old) × AreOnChip puts (put_at p.at p.octets old)
 
--- Of what a power cut may leave within any of these writes, where those before it are made and it is torn or whole, each is one of those contents.
+-- Of what a power cut may leave within any of these writes, where those before it are made and it is torn or whole, there is a proof that each
+-- is one of those contents.
 abbrev pub AreFronts : List Put → List ℕ → (List ℕ → Type 0) → Type 0
 AreFronts [] old since = ⊤
 AreFronts (p ∷ puts) old since =
@@ -55,8 +56,9 @@ abbrev pub and_put : Put → Option (List Put) → Option (List Put)
 and_put put None = None
 and_put put (Some puts) = Some (puts ++ put ∷ [])
 
--- where a write lies
+-- where a write lies, and that it has an octet
 pub record IsInside (write : Write) : Type 0 where
+  pub some : 0 < size_of write
   -- within the 65,536 octets
   pub within : (put_of write).at + size_of write ≤ 65536
   -- and within one sector
@@ -71,6 +73,21 @@ AreNoted waiting saved now = (puts : List Put) → waiting ≡ Some puts → wri
 abbrev pub AreFew : Option (List Put) → ℕ → ℕ → Type 0
 AreFew waiting called changes =
     (puts : List Put) → waiting ≡ Some puts → changes < 4294967295 → called + length puts ≤ changes
+
+-- how many octets a program call gave for it: an erase is given none
+abbrev pub given_for : Put → ℕ
+given_for p = if p.erase then 0 else length p.octets
+
+-- how many for all of them
+abbrev pub octets_given : List Put → ℕ
+octets_given [] = 0
+octets_given (p ∷ puts) = given_for p + octets_given puts
+
+-- Where a place notes writes, those that wait and are no erase have together at most so many octets as program calls were given since they were handed
+-- out last, when so many had been counted, or since the flash was made; as long as that count isn't ffffffff.
+abbrev pub AreLean : Option (List Put) → ℕ → ℕ → Type 0
+AreLean waiting programmed octets =
+    (puts : List Put) → waiting ≡ Some puts → octets < 4294967295 → programmed + octets_given puts ≤ octets
 
 -- Where a place notes writes, each that waits gives on a chip the octets that are to stand there.
 abbrev pub AreKinds : Option (List Put) → List ℕ → Type 0

@@ -26,12 +26,13 @@ pub trait Backing: Drop {
     // The writes that the caller of the flash is still to make, where the place only notes them.
     ghost waiting: { Self → Option (List Put) };
 
-    /// Puts octets at an offset, within one sector. They are durable once it answers Ok (`ok`), but for a place that only notes its writes.
+    /// Puts octets, one at least, at an offset, within one sector. They are durable once it answers Ok (`ok`), but for a place that only notes its writes.
     ///
     /// # Errors
     ///
     /// `Refused`: each bit of the range is old or new then, all else as it was (`err`).
     fn put(&mut self, at: u32, bytes: &[u8]) -> Result<(), Refused>
+        requires some { 0 < length bytes.now }
         requires within { at + length bytes.now ≤ FLASH_OCTETS }
         requires one_sector { at % SECTOR_OCTETS + length bytes.now ≤ SECTOR_OCTETS }
         ensures ok { OnOk result (WasPut at bytes.now (held self.old) (held self.new)) }

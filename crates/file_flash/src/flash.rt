@@ -10,7 +10,7 @@ ghost use Rattle.flash_model.specs.Chip.{IsFresh, Keeps, Stays};
 ghost use Rattle.file_flash.specs.Backing.{WasPut, WasTorn};
 ghost use Rattle.file_flash.specs.Backed.{IsMirrored, IsTied, IsTimed, TornSince, backed_chip, time_at};
 ghost use Rattle.file_flash.specs.Handed.{IsHandedOut};
-ghost use Rattle.file_flash.specs.Noted.{AreFew, AreFronts, AreKinds, AreNoted, AreOnChip, IsInside, MayBeCut, Put, and_put, program_put, put_of, written};
+ghost use Rattle.file_flash.specs.Noted.{AreFew, AreFronts, AreKinds, AreLean, AreNoted, AreOnChip, IsInside, MayBeCut, Put, and_put, octets_given, program_put, put_of, written};
 ghost use Rattle.file_flash.specs.Laws.{content_law, counts_now_law, cut_prop, kinds_prop, only_now_law};
 
 use crate::backing::Backing;
@@ -38,6 +38,7 @@ pub struct FileFlash<F: Bench, B: Backing> {
     ghost tied: { IsTied failed (F.chip mirror) (F.chip goal) (B.held backing) },
     ghost noted: { AreNoted (B.waiting backing) saved.octets (F.chip mirror).now },
     ghost few: { AreFew (B.waiting backing) saved.called (F.chip mirror).changes },
+    ghost lean: { AreLean (B.waiting backing) saved.programmed (F.chip mirror).octets },
     ghost timed: { IsTimed saved (F.chip mirror).moment },
     ghost kinds: { AreKinds (B.waiting backing) saved.octets } by { kinds_prop (B.waiting backing) saved.octets },
     ghost fronts: { MayBeCut (B.waiting backing) saved.octets (TornSince saved.calls saved.moment) } by { cut_prop (B.waiting backing) saved.octets (TornSince saved.calls saved.moment) },
@@ -63,6 +64,7 @@ impl<B: Backing> FileFlash<MemFlash, B> {
               saved = image.now;
               moment = (⟦<FileFlash<MemFlash, B> as Flash>⟧.chip f).moment;
               called = 0;
+              programmed = 0;
               cycles = 0;
             }) }
         ensures changes { IfOk result (λ f. (⟦<FileFlash<MemFlash, B> as Flash>⟧.chip f).changes ≡ 0) }
@@ -97,10 +99,11 @@ impl<F: Bench, B: Backing> FileFlash<F, B> {
 
 impl<F: Bench> FileFlash<F, NotedPlace> {
     /// The writes since this was called last, or since the flash was made, in their order: made one after another on what was read then, they give
-    /// what is read now (`writes`), each within one sector (`inside`). A program write gives its octets on a chip too, where it clears bits alone
+    /// what is read now (`writes`), each within one sector, and none without an octet (`inside`). A program write gives its octets on a chip too, where it clears bits alone
     /// (`on_chip`). Each front of them, with its last write torn or whole, is content that a power cut might have left since then
     /// (`fronts`). They are at most so many as program and erase calls were counted since then, as long as that count isn't
-    /// ffffffff (`few`). None waits any more then (`none`). Nothing else changes than what is saved, and it takes no memory. A
+    /// ffffffff (`few`), and those that are no erase have at most so many octets as program calls were given since then, with the same proviso of that
+    /// count (`lean`). None waits any more then (`none`). Nothing else changes than what is saved, and it takes no memory. A
     /// flash that failed hands out its writes too: none of the call in which it failed.
     ///
     /// Whoever takes them makes them durable, in their order, before anything leaves that this flash was written for.
@@ -116,6 +119,9 @@ impl<F: Bench> FileFlash<F, NotedPlace> {
         ensures few { (⟦<FileFlash<F, NotedPlace> as Flash>⟧.chip self.old).changes < 4294967295
             → (⟦<FileFlash<F, NotedPlace> as Flash>⟧.chip self.old).setting.called + length result.items
             ≤ (⟦<FileFlash<F, NotedPlace> as Flash>⟧.chip self.old).changes }
+        ensures lean { (⟦<FileFlash<F, NotedPlace> as Flash>⟧.chip self.old).octets < 4294967295
+            → (⟦<FileFlash<F, NotedPlace> as Flash>⟧.chip self.old).setting.programmed + octets_given (map put_of result.items)
+            ≤ (⟦<FileFlash<F, NotedPlace> as Flash>⟧.chip self.old).octets }
         ensures frame { IsHandedOut (⟦<FileFlash<F, NotedPlace> as Flash>⟧.chip self.old)
             (⟦<FileFlash<F, NotedPlace> as Flash>⟧.chip self.new) }
     {
@@ -125,12 +131,15 @@ impl<F: Bench> FileFlash<F, NotedPlace> {
 }
 
 /// The laws of the writes that a place notes for the caller of its flash, since they were handed out last, or since the flash was made. At most so many
-/// wait as program and erase calls were counted since then, as long as that count isn't ffffffff (`few`), so none where none was. Each gives its
+/// wait as program and erase calls were counted since then, as long as that count isn't ffffffff (`few`), so none where none was. Those that are no erase
+/// have at most so many octets as program calls were given since then, with the same proviso of that count (`lean`). Each gives its
 /// octets on a chip too (`kinds`). Each front of them, with its last write torn or whole, is content that a power cut might have left
 /// since then (`fronts`). It does nothing.
 pub fn waiting_law<F: Bench, B: Backing>()
     ensures few { (f : FileFlash F B ⟦<F as Flash>⟧ ⟦<B as Backing>⟧) → AreFew (B.waiting f.backing)
         (⟦<FileFlash<F, B> as Flash>⟧.chip f).setting.called (⟦<FileFlash<F, B> as Flash>⟧.chip f).changes }
+    ensures lean { (f : FileFlash F B ⟦<F as Flash>⟧ ⟦<B as Backing>⟧) → AreLean (B.waiting f.backing)
+        (⟦<FileFlash<F, B> as Flash>⟧.chip f).setting.programmed (⟦<FileFlash<F, B> as Flash>⟧.chip f).octets }
     ensures kinds { (f : FileFlash F B ⟦<F as Flash>⟧ ⟦<B as Backing>⟧) → AreKinds (B.waiting f.backing)
         (⟦<FileFlash<F, B> as Flash>⟧.chip f).setting.saved }
     ensures fronts { (f : FileFlash F B ⟦<F as Flash>⟧ ⟦<B as Backing>⟧) → MayBeCut (B.waiting f.backing)
@@ -157,6 +166,7 @@ fn fill<F: Bench>(flash: &mut F, image: &[u8])
           saved = image.now;
           moment = (F.chip flash.new).moment;
           called = 0;
+          programmed = 0;
           cycles = (F.chip flash.old).setting.cycles + 1;
         } }
     ensures changes { (F.chip flash.new).changes ≡ 0 }
@@ -181,6 +191,7 @@ fn put_range<F: Flash, B: Backing>(
     range: &mut [u8],
 ) -> Result<bool, FlashFailed>
     requires len { length range.old ≡ len }
+    requires some { 0 < len }
     requires within { at + len ≤ FLASH_OCTETS }
     requires one_sector { at % SECTOR_OCTETS + len ≤ SECTOR_OCTETS }
     ensures taken { IfOk result

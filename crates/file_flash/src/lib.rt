@@ -13,8 +13,8 @@
 //! meanings that nobody runs: `held`, the 65,536 octets that whoever comes after this process finds there, or `None` where contracts can't know;
 //! and `waiting`, `None` but for a place that only notes its writes.
 //!
-//! It may count on a range that lies within one sector of the 65,536 octets (`within`, `one_sector` of `put`), and on a sector below 16 (`sector` of
-//! `erase_sector`).
+//! It may count on a range of one octet at least that lies within one sector of the 65,536 octets (`some`, `within`, `one_sector` of `put`), and on a
+//! sector below 16 (`sector` of `erase_sector`).
 //!
 //! 1. After Ok the octets of the range are those that were put, and no other octet changed: for whoever reads them now, and for whoever
 //!    comes next, also after power failed (`ok`; `WasPut`).

@@ -1,5 +1,5 @@
 // A place that notes the writes which its caller makes.
-ghost use Rattle.std.specs.Prelude.{◌≡◌, ◌+◌, ◌%◌, ◌≤◌, All, [], ◌∷◌, ◌++◌, length, map, Some, None, OnOk, OnErr};
+ghost use Rattle.std.specs.Prelude.{◌≡◌, ◌+◌, ◌%◌, ◌<◌, ◌≤◌, All, [], ◌∷◌, ◌++◌, length, map, Some, None, OnOk, OnErr};
 ghost use Rattle.file_flash.specs.Backing.{WasPut, WasTorn};
 ghost use Rattle.file_flash.specs.Noted.{IsInside, and_put, program_put, put_of};
 
@@ -65,6 +65,7 @@ impl NotedPlace {
     ///
     /// `AllocError`: nothing was noted.
     fn note_octets(&mut self, at: u32, bytes: &[u8]) -> Result<(), AllocError>
+        requires some { 0 < length bytes.now }
         requires within { at + length bytes.now ≤ FLASH_OCTETS }
         requires one_sector { at % SECTOR_OCTETS + length bytes.now ≤ SECTOR_OCTETS }
         ensures ok { OnOk result

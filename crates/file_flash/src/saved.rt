@@ -28,6 +28,8 @@ pub struct Saved {
     pub moment: u64,
     /// How many program and erase calls had been counted.
     pub called: u64,
+    /// How many octets the program calls among them had been given.
+    pub programmed: u64,
     /// The calls since the flash was made, in their order.
     pub calls: LinkedList<Call>,
 }
@@ -48,6 +50,8 @@ pub trait Shown {
     ghost octets: { List ℕ };
 
     ghost called: { ℕ };
+
+    ghost programmed: { ℕ };
 }
 
 impl Shown for Brand {
@@ -56,6 +60,8 @@ impl Shown for Brand {
     ghost octets = { [] };
 
     ghost called = { 0 };
+
+    ghost programmed = { 0 };
 }
 
 pub struct Saves<N>(PhantomData<N>);
@@ -63,7 +69,7 @@ pub struct Saves<N>(PhantomData<N>);
 impl<N: Shown> Play<u8, Saved> for Saves<N> {
     ghost use Rattle.file_flash.specs.Saved.{Stores};
 
-    ghost then = { Stores N.octets N.called };
+    ghost then = { Stores N.octets N.called N.programmed };
 }
 
 /// A call that begins.
@@ -120,13 +126,14 @@ impl Keeper {
         Ok(Keeper { table, seat })
     }
 
-    /// What is read of this flash now, how many calls there were so far, and its count of program and erase calls.
+    /// What is read of this flash now, how many calls there were so far, and its counts of program and erase calls and of the octets programmed.
     pub fn save<F: Flash>(&mut self, flash: &F)
         ensures { self.new
             ≡ record self.old {
               octets = (F.chip flash.now).now;
               moment = length self.old.calls;
               called = (F.chip flash.now).changes;
+              programmed = (F.chip flash.now).octets;
             } }
     {
         save_shown::<F, Brand>(&self.table, &mut self.seat, flash);
@@ -147,6 +154,7 @@ fn save_shown<F: Flash, N: Shown>(
 )
     requires octets { (F.chip flash.now).now ≡ N.octets }
     requires called { (F.chip flash.now).changes ≡ N.called }
+    requires programmed { (F.chip flash.now).octets ≡ N.programmed }
     requires word { table.now.shared.table_id.words ≡ 1 }
     requires seat { seat.old.table_id ≡ table.now.shared.table_id }
     ensures seat { seat.new.table_id ≡ seat.old.table_id }
@@ -155,6 +163,7 @@ fn save_shown<F: Flash, N: Shown>(
           octets = (F.chip flash.now).now;
           moment = length seat.old.me.0.calls;
           called = (F.chip flash.now).changes;
+          programmed = (F.chip flash.now).octets;
         } }
 {
     let _ = flash;

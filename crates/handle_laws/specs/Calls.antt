@@ -1,7 +1,7 @@
 -- Calls of a node behind a pointer, one after another.
 use Rattle.std.specs.Prelude.{◌≡◌, ℕ, ◌+◌, ◌<◌, ◌≤◌, Bool, List, [], ◌∷◌, ◌++◌, length, Option, Some}
 use Rattle.called_node.specs.Called.{CalledView}
-use Rattle.file_flash.specs.Noted.{AreFronts, AreOnChip, Put, written}
+use Rattle.file_flash.specs.Noted.{AreFronts, AreOnChip, Put, octets_given, written}
 use Rattle.flash_model.specs.Chip.{Chip}
 use Rattle.mesh_node.specs.Held.{HeldView}
 use Rattle.node_handle.specs.Nodes.{IsOpened, IsPassed, IsPhase, IsReported}
@@ -46,13 +46,21 @@ module _ {F : Type 0} (chip : F → Chip) (waiting : F → Option (List Put)) wh
       → DidCalls calls opened now → now.life ≡ Some life → (chip life.node.flash).changes < 4294967295
       → length (handed_out calls) + length now.writes ≤ (chip life.node.flash).changes
 
+  -- Those that are no erase have at most so many octets as program calls of that flash were given, from the image on, as long as that count isn't
+  -- ffffffff.
+  abbrev pub WritesAreLean : Type 0
+  WritesAreLean =
+      (image line : List ℕ) (calls : List Call) (opened now : CalledView F) (life : HeldView F) → IsOpened chip waiting image line opened
+      → DidCalls calls opened now → now.life ≡ Some life → (chip life.node.flash).octets < 4294967295
+      → octets_given (handed_out calls) + octets_given now.writes ≤ (chip life.node.flash).octets
+
   -- Each of them gives its octets on a chip too, where a program call clears bits alone.
   abbrev pub WritesAreOnChip : Type 0
   WritesAreOnChip =
       (image line : List ℕ) (calls : List Call) (opened now : CalledView F) (life : HeldView F) → IsOpened chip waiting image line opened
       → DidCalls calls opened now → now.life ≡ Some life → AreOnChip (handed_out calls ++ now.writes) image
 
-  -- What a power cut might have left of the flash of the life, till the first so many of these calls were made.
+  -- What a power cut might have left of the flash of the life, at whatever moment till the first so many of these calls were made.
   pub record MightBeLeft (opened : CalledView F) (calls : List Call) (c : List ℕ) : Type 0 where
     pub front : List Call
     pub back : List Call

@@ -4,7 +4,7 @@
 //! In `specs/`, `Calls` says what calls of a node are, one after another, and has the law.
 #![tactic(auto)]
 
-ghost use Rattle.handle_laws.specs.Calls.{WritesAreFew, WritesAreOnChip, WritesMakeImage, WritesMayBeCut};
+ghost use Rattle.handle_laws.specs.Calls.{WritesAreFew, WritesAreLean, WritesAreOnChip, WritesMakeImage, WritesMayBeCut};
 
 use file_flash::{Backing, NotedFlash, NotedPlace};
 use flash_model::Flash;
@@ -14,10 +14,11 @@ use flash_model::Flash;
 /// left, those that were handed out give it alone (`made`). Each gives its octets on a chip too, where a program call clears bits alone (`on_chip`). Each
 /// front of them on that image, with its last write torn or whole, is content that a power cut might have left of the node's flash
 /// (`fronts`). They are at most so many as program and erase calls were counted of that flash, as long as that count isn't
-/// ffffffff (`few`).
+/// ffffffff (`few`); and those that are no erase have at most so many octets as program calls of it were given, with the same proviso (`lean`).
 pub fn writes_law()
     ensures made { WritesMakeImage ⟦<NotedFlash as Flash>⟧.chip (λ f. ⟦<NotedPlace as Backing>⟧.waiting f.backing) }
     ensures on_chip { WritesAreOnChip ⟦<NotedFlash as Flash>⟧.chip (λ f. ⟦<NotedPlace as Backing>⟧.waiting f.backing) }
     ensures fronts { WritesMayBeCut ⟦<NotedFlash as Flash>⟧.chip (λ f. ⟦<NotedPlace as Backing>⟧.waiting f.backing) }
     ensures few { WritesAreFew ⟦<NotedFlash as Flash>⟧.chip (λ f. ⟦<NotedPlace as Backing>⟧.waiting f.backing) }
+    ensures lean { WritesAreLean ⟦<NotedFlash as Flash>⟧.chip (λ f. ⟦<NotedPlace as Backing>⟧.waiting f.backing) }
 {}

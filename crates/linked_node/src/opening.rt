@@ -24,7 +24,7 @@ pub type LinkedNode = HeldLife<MeshMachine, NotedFlash>;
 
 /// Opens a node over an image of 65,536 octets that holds one: whatever the image holds, a life is opened over it, or there is a refusal. The writes of
 /// the node are those on this image (`saved`). None waits, but over an image of format 01: then those of a migration (`writes`). Program and erase
-/// calls are counted from this image on (`uncalled`).
+/// calls are counted from this image on (`uncalled`), and the octets that the program calls are given (`unprogrammed`).
 ///
 /// # Errors
 ///
@@ -34,6 +34,7 @@ pub fn open_image(alloc: Global, image: &[u8]) -> Result<LinkedNode, OpenFault>
     ensures node { OnOk result (IsNode image.now) }
     ensures start { IfOk result (λ r. (⟦<NotedFlash as Flash>⟧.chip r.node.start).now ≡ image.now) }
     ensures uncalled { IfOk result (λ r. (⟦<NotedFlash as Flash>⟧.chip r.node.start).changes ≡ 0) }
+    ensures unprogrammed { IfOk result (λ r. (⟦<NotedFlash as Flash>⟧.chip r.node.start).octets ≡ 0) }
     ensures saved { IfOk result (λ r. (⟦<NotedFlash as Flash>⟧.chip r.node.flash).setting.saved ≡ image.now) }
     ensures writes { IfOk result
         (λ r. (puts : List Put) → ⟦<NotedPlace as Backing>⟧.waiting r.node.flash.backing ≡ Some puts → AreOfMigration image.now puts) }

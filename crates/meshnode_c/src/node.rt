@@ -68,8 +68,8 @@ pub extern "C" fn meshnode_node_line(
 /// Takes the next write, in their order. `erased` tells whether it is an erase of a sector: then the 4,096 octets from `at` on, the sector's first,
 /// are to become ff, `size` is 4,096, and `octets` is as it was, however long it is. Else the octets are put into the front of `octets`, `size`
 /// tells how many, and `at` the offset in the image from which on they are to stand. Made one after another on the image of before, the writes
-/// give the image that the node reads now; the caller makes each durable before the next, and all before the report leaves. A write lies within
-/// one sector; one that is no erase only clears bits. Where `octets` is too short for one `size` tells how many it must have,
+/// give the image that the node reads now; the caller makes each durable before the next, and all before the report leaves. A write has an octet at
+/// least and lies within one sector; one that is no erase only clears bits. Where `octets` is too short for one `size` tells how many it must have,
 /// and the write stays: 4,096 always do, and 31 as the code stands.
 #[unsafe(no_mangle)]
 pub extern "C" fn meshnode_node_write(
@@ -84,6 +84,7 @@ pub extern "C" fn meshnode_node_write(
         → Became (λ a b. IsPassed a.calls b.calls (told_put at.new erased.new size.new octets.new) erased.new) node.old.value node.new.value }
     ensures erase { result ≡ 0 → erased.new ≡ true → IsErase at.new size.new octets.old octets.new }
     ensures within { result ≡ 0 → erased.new ≡ false → size.new ≤ length octets.old }
+    ensures some { result ≡ 0 → 0 < size.new }
     ensures inside { result ≡ 0 → at.new + size.new ≤ 65536 }
     ensures one_sector { result ≡ 0 → at.new % 4096 + size.new ≤ 4096 }
     ensures length { result ≡ 1

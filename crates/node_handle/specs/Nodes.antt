@@ -65,8 +65,9 @@ module _ {F : Type 0} (chip : F → Chip) (waiting : F → Option (List Put)) wh
     pub first : IsFirstLine image line
     pub life : HeldView F
     pub start : (chip life.node.start).now ≡ image
-    -- its program and erase calls are counted from there
+    -- its program and erase calls are counted from there, and the octets that the program calls are given
     pub uncalled : (chip life.node.start).changes ≡ 0
+    pub unprogrammed : (chip life.node.start).octets ≡ 0
     pub saved : (chip life.node.flash).setting.saved ≡ image
     pub begun : IsBegun (node_role node_layers) IsNode chip waiting life now
     pub writes : AreOfMigration image now.writes

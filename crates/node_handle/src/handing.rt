@@ -60,6 +60,7 @@ fn tell_write(
     ensures erased { result ≡ true → erased.new ≡ is_erase write.now }
     ensures erase { result ≡ true → erased.new ≡ true → IsErase at.new size.new octets.old octets.new }
     ensures within { result ≡ true → erased.new ≡ false → size.new ≤ length octets.old }
+    ensures some { result ≡ true → 0 < size.new }
     ensures inside { result ≡ true → at.new + size.new ≤ 65536 }
     ensures one_sector { result ≡ true → at.new % 4096 + size.new ≤ 4096 }
     ensures most { result ≡ false → size.new ≤ 4096 }
@@ -101,6 +102,7 @@ pub(crate) fn hand_write(
     ensures ok { result ≡ 0 → IsPassed calls.old calls.new (told_put at.new erased.new size.new octets.new) erased.new }
     ensures erase { result ≡ 0 → erased.new ≡ true → IsErase at.new size.new octets.old octets.new }
     ensures within { result ≡ 0 → erased.new ≡ false → size.new ≤ length octets.old }
+    ensures some { result ≡ 0 → 0 < size.new }
     ensures inside { result ≡ 0 → at.new + size.new ≤ 65536 }
     ensures one_sector { result ≡ 0 → at.new % 4096 + size.new ≤ 4096 }
     ensures length { result ≡ 1

@@ -48,7 +48,7 @@ returns-clause-setting g c =
     let faults = sym c.power_cycle.ensures.frame.faults in
     let saved = returns-clause-now g c in
     let before = c.loop-sector.invariant.setting in
-    c.power_cycle.ensures.setting ∙ (λ i. record { faults = faults i; arm = None; saved = saved i; moment = new.moment; called = 0; cycles = (before i).cycles + 1 })
+    c.power_cycle.ensures.setting ∙ (λ i. record { faults = faults i; arm = None; saved = saved i; moment = new.moment; called = 0; programmed = 0; cycles = (before i).cycles + 1 })
 
 pub returns-clause-fresh : goal.returns-clause-fresh
 returns-clause-fresh g c = c.power_cycle.ensures.fresh c.loop-sector.invariant.fresh.honest

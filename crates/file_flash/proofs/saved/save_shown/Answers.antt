@@ -7,5 +7,5 @@ store-requires g c =
     let saved = c.args.seat.now.me.0 in (
       c.requires.seat,
       omega (arith, c.requires.word),
-      λ s h len at fits. (record saved { octets = g.N.Shown.octets; moment = length saved.calls; called = g.N.Shown.called }, keeps, tt, tt, refl),
+      λ s h len at fits. (record saved { octets = g.N.Shown.octets; moment = length saved.calls; called = g.N.Shown.called; programmed = g.N.Shown.programmed }, keeps, tt, tt, refl),
     )

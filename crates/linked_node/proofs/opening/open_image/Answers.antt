@@ -36,3 +36,6 @@ returns-in-Ok-open-clause-writes c =
     let made = c.in-Ok.ensures in
     of_migration c.args.image.now _ _ _ ((read.stays made.fresh.honest).now ∙ made.now) (read.calls ∙ made.changes) c.in-Ok-open.ensures.opened
     (c.waiting_law.ensures.few c.in-Ok-open.node.node.flash)
+
+pub returns-in-Ok-open-clause-node : goal.returns-in-Ok-open-clause-node
+returns-in-Ok-open-clause-node c = subst IsNode c.in-Ok.ensures.now (c.in-Ok-read_image.ensures.node c.in-Ok.ensures.fresh.honest)

@@ -2,7 +2,7 @@ use Rattle.std.proofs.Common.{rules, ◌≡◌, ◌∙◌, List, Vec, Global, So
 use Rattle.mesh_types.specs.declared.events.Event.{Event}
 use Rattle.file_flash.specs.Noted.{put_of}
 use Rattle.called_node.specs.Called.{IsGiven, is_erase}
-use Rattle.called_node.proofs.Lines.{events_again, line_done}
+use Rattle.called_node.proofs.Lines.{events_again, line_done, one_list}
 use Rattle.called_node.proofs.Taking.{lost_is}
 use Rattle.called_node.proofs.called.CalledNode+M+NotedFlash.line.Goals as goal
 
@@ -13,6 +13,13 @@ do_line-requires-clause-events g c κs within =
     let given : IsGiven c.args.text.now c.args.self.now (map (λ v. v.items) c.as_slice.result.now) =
     subst (λ (ls : List (Vec Event Global)). IsGiven c.args.text.now c.args.self.now (map (λ v. v.items) ls)) same c.in-Ok.ensures.given in
     events_again c.args.text.now c.args.self.now c.as_slice.result.now c.in-Some.life given is
+
+pub do_line-requires-clause-one : goal.do_line-requires-clause-one
+do_line-requires-clause-one g c κs within =
+    let same : c.in-Ok.lists.items ≡ c.as_slice.result.now = search rules in
+    let given : IsGiven c.args.text.now c.args.self.now (map (λ v. v.items) c.as_slice.result.now) =
+    subst (λ (ls : List (Vec Event Global)). IsGiven c.args.text.now c.args.self.now (map (λ v. v.items) ls)) same c.in-Ok.ensures.given in
+    one_list c.args.text.now c.args.self.now c.as_slice.result.now given
 
 pub returns-in-Ok-do_line-clause-happened : goal.returns-in-Ok-do_line-clause-happened
 returns-in-Ok-do_line-clause-happened g c e =

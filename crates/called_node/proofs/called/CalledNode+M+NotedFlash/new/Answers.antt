@@ -14,7 +14,7 @@ begun-requires-clause-story g c κs within =
 pub begun-requires-clause-counted : goal.begun-requires-clause-counted
 begun-requires-clause-counted g c κs within =
     let handed = c.take_writes-writes.ensures.flash in
-    ap (λ (s : Setting). s.called) handed.setting ∙ sym handed.changes
+    (ap (λ (s : Setting). s.called) handed.setting ∙ sym handed.changes, ap (λ (s : Setting). s.programmed) handed.setting ∙ sym handed.octets)
 
 pub returns : goal.returns
 returns g c =
@@ -23,5 +23,5 @@ returns g c =
       begun = begun_is g.M.Machine.role g.M.Machine.image _ _ c.args.life out.new.self (map put_of out.result.items) (map is_erase out.result.items) _ c.begun.ensures.value c.requires.usable c.requires.begins
           out.ensures.held out.ensures.flash out.ensures.frame out.ensures.noted out.ensures.none out.ensures.writes
           out.ensures.on_chip out.ensures.fronts
-          (few_puts out.result.items _ _ out.ensures.few);
+          (few_puts out.result.items _ _ out.ensures.few) out.ensures.lean;
     }

@@ -11,3 +11,6 @@ returns-clause-fronts g c =
     let puts = map put_of c.take.result.items in
     fronts_in puts f.saved.octets (TornSince f.saved.calls f.saved.moment) ((backed_chip (chip f.mirror) (chip f.goal) f.failed f.saved).since f.saved.moment)
     (λ d torn. inr torn) (f.fronts puts (sym c.take.ensures.taken))
+
+pub returns-clause-lean : goal.returns-clause-lean
+returns-clause-lean g c = λ less. c.args.self.now.lean (map put_of c.take.result.items) (sym c.take.ensures.taken) less

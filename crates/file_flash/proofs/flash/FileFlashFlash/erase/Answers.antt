@@ -5,7 +5,7 @@ use Rattle.flash_model.specs.Chip.{Setting}
 use Rattle.flash_model.specs.Octets.{IsContent, erased}
 use Rattle.flash_model.proofs.Mixed.{blanked_content}
 use Rattle.file_flash.specs.Noted.{erase_put}
-use Rattle.file_flash.proofs.Few.{few_called, few_put}
+use Rattle.file_flash.proofs.Few.{few_called, few_put, lean_erase, lean_same}
 use Rattle.file_flash.proofs.Resting.{dead, done, framed, no_rest, now_dead, now_stays, refused, remembers_both, same_rest}
 use Rattle.file_flash.proofs.Tying.{on_ok, put_blanked, tied_put, tied_same, tied_torn}
 use Rattle.file_flash.proofs.Waiting.{Waits, waits_put, waits_same}
@@ -24,12 +24,14 @@ invariant_of-self g c =
     let behind = g.met.F.Flash.content f.goal (chip f.goal).moment (chip f.goal).now f.mirrored.sound (g.met.F.Flash.counts_now f.goal (chip f.goal).moment (chip f.goal).now (le_refl (chip f.goal).moment) (g.met.F.Flash.reads_image f.goal f.mirrored.sound)) in
     let w : Waits waiting c.note.new.self m2 =
     waits_same m0 m2 (chip f.goal).now waiting waiting f.saved c.note.new.self c.note.ensures c.erase.ensures.frame.past.later before behind
-    (few_called waiting waiting f.saved.called m0.changes m2.changes refl c.erase.ensures.begins f.few) (record { noted = f.noted; few = f.few; timed = f.timed; kinds = f.kinds; fronts = f.fronts }) refl now in
+    (few_called waiting waiting f.saved.called m0.changes m2.changes refl c.erase.ensures.begins f.few)
+    (lean_same waiting waiting f.saved.programmed m0.octets m2.octets refl c.erase.ensures.unprogrammed f.lean) (record { noted = f.noted; few = f.few; lean = f.lean; timed = f.timed; kinds = f.kinds; fronts = f.fronts }) refl now in
     record {
       mirrored = search rules;
       tied = tied_same f.failed m0 (chip f.goal) m2 _ now f.tied;
       noted = w.noted;
       few = w.few;
+      lean = w.lean;
       timed = w.timed;
       kinds = w.kinds;
       fronts = w.fronts;
@@ -73,13 +75,15 @@ invariant_of-self-in-Ok g c =
     let more = c.in-Ok.ensures.noted in
     let w : Waits (g.B.Backing.waiting c.erase_sector.new.self) c.note-2.new.self m2 =
     waits_put m0 m2 (chip c.erase-2.new.self).now (g.B.Backing.waiting f.backing) (g.B.Backing.waiting c.erase_sector.new.self) f.saved c.note-2.new.self c.note-2.ensures
-    c.erase-in-Ok.ensures.frame.past.later before behind (few_put (erase_put c.args.sector) _ _ f.saved.called m0.changes m2.changes more c.erase-in-Ok.ensures.begins f.few) (record { noted = f.noted; few = f.few; timed = f.timed; kinds = f.kinds; fronts = f.fronts })
+    c.erase-in-Ok.ensures.frame.past.later before behind (few_put (erase_put c.args.sector) _ _ f.saved.called m0.changes m2.changes more c.erase-in-Ok.ensures.begins f.few)
+    (lean_erase c.args.sector _ _ f.saved.programmed m0.octets m2.octets more c.erase-in-Ok.ensures.unprogrammed f.lean) (record { noted = f.noted; few = f.few; lean = f.lean; timed = f.timed; kinds = f.kinds; fronts = f.fronts })
     (erase_put c.args.sector) more (refl ∙ sym now) (put_blanked (4096 * c.args.sector) 4096 m0.now ∙ sym now) (first ∙ sym now) in
     record {
       mirrored = search rules;
       tied = tied_put (4096 * c.args.sector) _ (erased c.args.sector) f.failed m0 (chip f.goal) m2 (chip c.erase-2.new.self) _ _ c.if-self.false f.tied c.in-Ok.ensures.ok (put_blanked (4096 * c.args.sector) 4096 m0.now) now;
       noted = w.noted;
       few = w.few;
+      lean = w.lean;
       timed = w.timed;
       kinds = w.kinds;
       fronts = w.fronts;
@@ -123,14 +127,16 @@ invariant_of-self-in-Err g c =
     let later : m0.moment ≤ m2.moment = omega (arith, c.arm.ensures.frame.past.later, c.erase-in-Err.ensures.frame.past.later) in
     let few = few_called _ _ f.saved.called m0.changes m2.changes c.in-Err.ensures.unnoted
     (c.erase-in-Err.ensures.begins ∙ ap (λ (n : ℕ). min (n + 1) 4294967295) c.arm.ensures.changes) f.few in
+    let lean = lean_same _ _ f.saved.programmed m0.octets m2.octets c.in-Err.ensures.unnoted (c.erase-in-Err.ensures.unprogrammed ∙ c.arm.ensures.octets) f.lean in
     let w : Waits (g.B.Backing.waiting c.erase_sector.new.self) c.note-2.new.self m2 =
-    waits_same m0 m2 (chip c.erase-2.new.self).now (g.B.Backing.waiting f.backing) (g.B.Backing.waiting c.erase_sector.new.self) f.saved c.note-2.new.self c.note-2.ensures later before behind few (record { noted = f.noted; few = f.few; timed = f.timed; kinds = f.kinds; fronts = f.fronts })
+    waits_same m0 m2 (chip c.erase-2.new.self).now (g.B.Backing.waiting f.backing) (g.B.Backing.waiting c.erase_sector.new.self) f.saved c.note-2.new.self c.note-2.ensures later before behind few lean (record { noted = f.noted; few = f.few; lean = f.lean; timed = f.timed; kinds = f.kinds; fronts = f.fronts })
     c.in-Err.ensures.unnoted same in
     record {
       mirrored = search rules;
       tied = tied_torn (4096 * c.args.sector) _ (erased c.args.sector) f.failed m0 (chip f.goal) m2 (chip c.erase-2.new.self) _ _ c.if-self.false f.tied c.in-Err.ensures.err (put_blanked (4096 * c.args.sector) 4096 m0.now) same first;
       noted = w.noted;
       few = w.few;
+      lean = w.lean;
       timed = w.timed;
       kinds = w.kinds;
       fronts = w.fronts;

@@ -6,7 +6,7 @@ use Rattle.flash_model.specs.Octets.{IsContent, programmed}
 use Rattle.flash_model.proofs.Mixed.{programmed_content}
 use Rattle.file_flash.specs.Backing.{WasPut, WasTorn}
 use Rattle.file_flash.specs.Noted.{and_put, program_put}
-use Rattle.file_flash.proofs.Few.{few_called, few_put}
+use Rattle.file_flash.proofs.Few.{few_called, few_put, lean_called, lean_put, length_range}
 use Rattle.file_flash.proofs.Resting.{dead, done, framed, no_rest, now_dead, now_stays, refused, remembers_both, same_rest}
 use Rattle.file_flash.proofs.Tying.{on_ok, put_range, range_again, tied_put, tied_same, tied_torn}
 use Rattle.file_flash.proofs.Waiting.{Waits, waits_put, waits_same}
@@ -25,12 +25,14 @@ invariant_of-self g c =
     let behind = g.met.F.Flash.content f.goal (chip f.goal).moment (chip f.goal).now f.mirrored.sound (g.met.F.Flash.counts_now f.goal (chip f.goal).moment (chip f.goal).now (le_refl (chip f.goal).moment) (g.met.F.Flash.reads_image f.goal f.mirrored.sound)) in
     let w : Waits waiting c.note.new.self m2 =
     waits_same m0 m2 (chip f.goal).now waiting waiting f.saved c.note.new.self c.note.ensures c.program.ensures.frame.past.later before behind
-    (few_called waiting waiting f.saved.called m0.changes m2.changes refl c.program.ensures.begins f.few) (record { noted = f.noted; few = f.few; timed = f.timed; kinds = f.kinds; fronts = f.fronts }) refl now in
+    (few_called waiting waiting f.saved.called m0.changes m2.changes refl c.program.ensures.begins f.few)
+    (lean_called waiting waiting f.saved.programmed m0.octets m2.octets (length c.args.bytes.now) refl c.program.ensures.octets f.lean) (record { noted = f.noted; few = f.few; lean = f.lean; timed = f.timed; kinds = f.kinds; fronts = f.fronts }) refl now in
     record {
       mirrored = search rules;
       tied = tied_same f.failed m0 (chip f.goal) m2 _ now f.tied;
       noted = w.noted;
       few = w.few;
+      lean = w.lean;
       timed = w.timed;
       kinds = w.kinds;
       fronts = w.fronts;
@@ -80,7 +82,9 @@ invariant_of-self-then-branch g c =
     let more = subst (λ l. waiting c.put_range.new.backing ≡ and_put (program_put at (slice_range l at (at + length bytes))) (waiting f.backing)) first (c.in_ok-put_range.ensures.noted c.if-branch.true) in
     let w : Waits (g.B.Backing.waiting c.put_range.new.backing) c.note-2.new.self m2 =
     waits_put m0 m2 (chip c.program-2.new.self).now (g.B.Backing.waiting f.backing) (g.B.Backing.waiting c.put_range.new.backing) f.saved c.note-2.new.self c.note-2.ensures
-    c.program-then-branch.ensures.frame.past.later before behind (few_put (program_put at (slice_range (programmed at bytes m0.now) at (at + length bytes))) _ _ f.saved.called m0.changes m2.changes more c.program-then-branch.ensures.begins f.few) (record { noted = f.noted; few = f.few; timed = f.timed; kinds = f.kinds; fronts = f.fronts })
+    c.program-then-branch.ensures.frame.past.later before behind (few_put (program_put at (slice_range (programmed at bytes m0.now) at (at + length bytes))) _ _ f.saved.called m0.changes m2.changes more c.program-then-branch.ensures.begins f.few)
+    (lean_put (program_put at (slice_range (programmed at bytes m0.now) at (at + length bytes))) _ _ f.saved.programmed m0.octets m2.octets (length bytes) more (length_range at (length bytes) (programmed at bytes m0.now))
+    c.program-then-branch.ensures.octets f.lean) (record { noted = f.noted; few = f.few; lean = f.lean; timed = f.timed; kinds = f.kinds; fronts = f.fronts })
     (program_put at (slice_range (programmed at bytes m0.now) at (at + length bytes))) more (range_again at bytes m0.now ∙ sym now) (put_range at bytes m0.now ∙ sym now) (first ∙ sym now) in
     record {
       mirrored = record {
@@ -96,6 +100,7 @@ invariant_of-self-then-branch g c =
       tied = tied_put (at) _ (programmed c.args.at c.args.bytes.now) f.failed m0 (chip f.goal) m2 (chip c.put_range.new.goal) _ _ c.if-self.false f.tied put (put_range at bytes m0.now) now;
       noted = w.noted;
       few = w.few;
+      lean = w.lean;
       timed = w.timed;
       kinds = w.kinds;
       fronts = w.fronts;
@@ -144,14 +149,17 @@ invariant_of-self-else-branch g c =
     let later : m0.moment ≤ m2.moment = omega (arith, c.arm.ensures.frame.past.later, c.program-else-branch.ensures.frame.past.later) in
     let few = few_called _ _ f.saved.called m0.changes m2.changes (c.in_ok-put_range.ensures.unnoted c.if-branch.false)
     (c.program-else-branch.ensures.begins ∙ ap (λ (n : ℕ). min (n + 1) 4294967295) c.arm.ensures.changes) f.few in
+    let lean = lean_called _ _ f.saved.programmed m0.octets m2.octets (length bytes) (c.in_ok-put_range.ensures.unnoted c.if-branch.false)
+    (c.program-else-branch.ensures.octets ∙ ap (λ (n : ℕ). min (n + length bytes) 4294967295) c.arm.ensures.octets) f.lean in
     let w : Waits (g.B.Backing.waiting c.put_range.new.backing) c.note-2.new.self m2 =
-    waits_same m0 m2 (chip c.program-2.new.self).now (g.B.Backing.waiting f.backing) (g.B.Backing.waiting c.put_range.new.backing) f.saved c.note-2.new.self c.note-2.ensures later before behind few (record { noted = f.noted; few = f.few; timed = f.timed; kinds = f.kinds; fronts = f.fronts })
+    waits_same m0 m2 (chip c.program-2.new.self).now (g.B.Backing.waiting f.backing) (g.B.Backing.waiting c.put_range.new.backing) f.saved c.note-2.new.self c.note-2.ensures later before behind few lean (record { noted = f.noted; few = f.few; lean = f.lean; timed = f.timed; kinds = f.kinds; fronts = f.fronts })
     (c.in_ok-put_range.ensures.unnoted c.if-branch.false) same in
     record {
       mirrored = search rules;
       tied = tied_torn (at) _ (programmed c.args.at c.args.bytes.now) f.failed m0 (chip f.goal) m2 (chip c.put_range.new.goal) _ _ c.if-self.false f.tied torn (put_range at bytes m0.now) same goal2;
       noted = w.noted;
       few = w.few;
+      lean = w.lean;
       timed = w.timed;
       kinds = w.kinds;
       fronts = w.fronts;

@@ -2,6 +2,7 @@ use Rattle.std.proofs.Common.{rules, ◌≡◌, ◌<◌, ◌+◌, ◌≤◌, ℕ
 use Rattle.std.proofs.Math.Nat.{le_refl}
 use Rattle.flash_model.specs.Chip.{Setting}
 use Rattle.file_flash.specs.Noted.{AreFew}
+use Rattle.file_flash.proofs.Few.{lean_same}
 use Rattle.file_flash.proofs.Resting.{framed, same_rest, stayed}
 use Rattle.file_flash.proofs.Tying.{tied_same}
 use Rattle.file_flash.proofs.Waiting.{Waits, waits_same}
@@ -21,12 +22,14 @@ invariant_of-self g c =
     let few : AreFew waiting f.saved.called m2.changes = λ puts some less.
     subst (λ (n : ℕ). f.saved.called + length puts ≤ n) (sym count) (f.few puts some (subst (λ (n : ℕ). n < 4294967295) count less)) in
     let w : Waits waiting c.note.new.self m2 =
-    waits_same m0 m2 (chip f.goal).now waiting waiting f.saved c.note.new.self c.note.ensures c.read.ensures.frame.past.later before behind few (record { noted = f.noted; few = f.few; timed = f.timed; kinds = f.kinds; fronts = f.fronts }) refl now in
+    waits_same m0 m2 (chip f.goal).now waiting waiting f.saved c.note.new.self c.note.ensures c.read.ensures.frame.past.later before behind few
+    (lean_same waiting waiting f.saved.programmed m0.octets m2.octets refl c.read.ensures.unprogrammed f.lean) (record { noted = f.noted; few = f.few; lean = f.lean; timed = f.timed; kinds = f.kinds; fronts = f.fronts }) refl now in
     record {
       mirrored = search rules;
       tied = tied_same f.failed m0 (chip f.goal) m2 _ now f.tied;
       noted = w.noted;
       few = w.few;
+      lean = w.lean;
       timed = w.timed;
       kinds = w.kinds;
       fronts = w.fronts;
