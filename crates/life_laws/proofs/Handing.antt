@@ -1,4 +1,4 @@
--- The event in hand of a node whose flash failed is the next of some bearer.
+-- The event in hand of a node whose flash failed is the next of some bearer, which has written all lines before it.
 use Rattle.std.proofs.Common.{◌≡◌, ◌≢◌, ◌∙◌, ℕ, zero, suc, ◌+◌, ◌<◌, ◌≤◌, ◌⊎◌, inl, inr, ⊎_elim, Bool, true, false, true≢false, List, [], ◌∷◌, ◌++◌, length, map, Option, Some, None, refl, sym, ap, subst, arith, append-nil, length-append}
 use Rattle.std.specs.Prelude.{◌==◌, replicate, slice_index_or}
 use Rattle.std.specs.List.{Contains, enumerate_from, filter, slice_get}
@@ -7,10 +7,11 @@ use Rattle.std.proofs.lemmas.List.{length-map, map-append}
 use Rattle.std.proofs.lemmas.List.Elements.{Contains-append_right, filter-append}
 use Rattle.mesh_types.specs.declared.events.Event.{Event}
 use Rattle.mesh_types.specs.declared.history.Entry.{Entry}
+use Rattle.mesh_types.specs.declared.history.Sent.{Sent}
 use Rattle.machine_contract.specs.declared.answers.Stop.{Stop}
 use Rattle.machine_contract.specs.declared.answers.Stop.TheVariants as S
 use Rattle.report_definitions.specs.Record.{list_at}
-use Rattle.run_definitions.specs.Order.{Does, Part, Placed, handle, is_outside, of_bearer}
+use Rattle.run_definitions.specs.Order.{Does, Part, PartsOf, Placed, Walks, broken, ends, handle, is_outside, of_bearer, whole}
 use Rattle.seq_word.specs.Seen.{DrawerView}
 use Rattle.turn_lock.specs.Entries.{added}
 use Rattle.turn_lock.proofs.Kept.{kept_at}
@@ -20,14 +21,15 @@ use Rattle.locked_node.specs.Node.{NodeView, event_in, handled_marks, node_marks
 use Rattle.node_bearer.specs.Did.{AreMarksAt, BearerOf, Broke, IsNext}
 use Rattle.node_bearer.proofs.Lists.{get_longer}
 use Rattle.node_phase.specs.declared.bearers.Done.{Done}
-use Rattle.node_phase.specs.Part.{AreThrough, HadMemory, part_of}
+use Rattle.node_phase.specs.Part.{AreThrough, HadMemory, lines_of, part_of}
 use Rattle.node_phase.specs.Worked.{WasPhase, Worked, done_of, own_of}
 use Rattle.node_phase.proofs.Mine.{is_by, keep_mine, placed_marks, stop_dropped}
-use Rattle.node_phase.proofs.Parting.{entries_at, index_map, part_at, parts_of_phase}
-use Rattle.life_laws.specs.Hands.{AreHandledAll, IsNextIn, events_of, outs}
-use Rattle.life_laws.specs.Phases.{entries_by}
+use Rattle.node_phase.proofs.Parting.{entries_at, index_map, list_at_map, part_at, parts_of_phase}
+use Rattle.life_laws.specs.Hands.{AreHandledAll, HandComes, IsInHand, IsNextIn, events_of, here, later, outs}
+use Rattle.life_laws.specs.Phases.{AreDone, both_of, entries_by}
+use Rattle.life_laws.proofs.Ordering.{all_parts, fall_more}
 use Rattle.life_laws.proofs.Placing.{CameTo, came_to, of_bearer_from}
-use Rattle.life_laws.proofs.Walking.{next_out, outs_all}
+use Rattle.life_laws.proofs.Walking.{next_out, next_task, outs_all}
 
 outs_append : (xs ys : List Entry) → outs (xs ++ ys) ≡ outs xs ++ outs ys
 outs_append xs ys = ap (filter is_outside) (map-append (λ (e : Entry). e.event) xs ys) ∙ filter-append is_outside (map (λ (e : Entry). e.event) xs) (map (λ (e : Entry). e.event) ys)
@@ -79,33 +81,20 @@ empty_or : {A : Type 0} (xs : List A) → (xs ≡ []) ⊎ (xs ≢ [])
 empty_or [] = inl refl
 empty_or (x ∷ xs) = inr (λ h. cc)
 
-module _ {F : Type 0} (phases : List (List (List Event))) (old new : NodeView F) (d e : DrawerView) (events : List (List Event)) (counts : List ℕ) (dones : List Done)
-    (h : AreHandledAll phases old.machine.entries) (w : WasPhase old new d e events counts dones) (memory : HadMemory dones) (few : length events ≤ length counts) (none : old.stops ≡ 0) where
+-- behind phases that are through
+behind_whole : (event : Event) (rest : List (List (List Event))) (tail : List Part) {is_cut : Bool} {phases : List (List (List Event))} {parts : List Part}
+    → PartsOf is_cut phases parts → is_cut ≡ false → HandComes event rest tail → HandComes event (phases ++ rest) (parts ++ tail)
+behind_whole event rest tail ends off comes = comes
+behind_whole event rest tail (whole does more) off comes = later does (behind_whole event rest tail more off comes)
+behind_whole event rest tail (broken does) off comes = absurd (true≢false off)
+
+module _ {F : Type 0} (old new : NodeView F) (d e : DrawerView) (events : List (List Event)) (counts : List ℕ) (dones : List Done)
+    (w : WasPhase old new d e events counts dones) (memory : HadMemory dones) (few : length events ≤ length counts) (none : old.stops ≡ 0) where
   abbrev came : CameTo old new
   came = came_to old new none w.front
 
   abbrev part : Part
   part = part_of old new dones
-
-  by_bearer : (k : ℕ) → entries_by k new.machine.entries ≡ entries_by k old.machine.entries ++ entries_by k came.more
-  by_bearer k = ap (entries_by k) came.is ∙ filter-append (λ (x : Entry). x.bearer == k) old.machine.entries came.more
-
-  more_by : (k : ℕ) → map (λ (q : Placed). q.entry) (of_bearer k part.entries) ≡ entries_by k came.more
-  more_by k = ap (λ l. map (λ (q : Placed). q.entry) (of_bearer k l)) came.placed ∙ of_bearer_from k (length old.machine.entries) came.more
-
-  outs_by : (k : ℕ) → outs (entries_by k new.machine.entries) ≡ events_of phases k ++ outs (map (λ (q : Placed). q.entry) (of_bearer k part.entries))
-  outs_by k =
-      ap outs (by_bearer k) ∙ outs_append (entries_by k old.machine.entries) (entries_by k came.more) ∙ ap (λ l. l ++ outs (entries_by k came.more)) (h k)
-      ∙ ap (λ l. events_of phases k ++ outs l) (sym (more_by k))
-
-  events_more : (k : ℕ) (rest : List (List (List Event))) → events_of (phases ++ events ∷ rest) k ≡ events_of phases k ++ (list_at events k ++ events_of rest k)
-  events_more k rest = flat_map-append (λ (evs : List (List Event)). list_at evs k) phases (events ∷ rest)
-
-  pub handled_more : AreThrough dones → AreHandledAll (phases ++ events ∷ []) new.machine.entries
-  handled_more through k =
-      let p = (parts_of_phase old new d e events counts dones w memory few k).0 in
-      let does : Does events part k [] = subst (Does events part k) (p.all through) p.does in
-      outs_by k ∙ ap (λ l. events_of phases k ++ l) (outs_all (list_at events k) (of_bearer k part.entries) (list_at part.sends k) does ∙ sym (append-nil (list_at events k))) ∙ sym (events_more k [])
 
   abbrev lists : List (List (ℕ × Mark))
   lists = [] ∷ map own_of w.bearers
@@ -125,12 +114,19 @@ module _ {F : Type 0} (phases : List (List (List Event))) (old new : NodeView F)
         by_place j (inl lt) all last bound = all j lt
         by_place j (inr le) all last bound = let same : n ≡ j = omega (arith, le, bound) in subst (λ i. filter has_event (slice_index_or w.bearers i b).pass.own ≡ []) same last
 
-  -- a bearer that was broken off at this event
-  next_of : (event : Event) (m : ℕ) → new.stops ≡ suc m → event_in new.machine.hand ≡ Some event → is_outside event ≡ true → (rest : List (List (List Event)))
-      → (j : ℕ) (b : BearerOf F) (lt : j < length w.bearers) → Broke j (slice_index_or w.before j b).number (map handle (list_at events j)) (slice_index_or w.bearers j b)
-      → filter has_event (slice_index_or w.bearers j b).pass.own ≢ [] → IsNextIn (phases ++ events ∷ rest) new.machine.entries event
-  next_of event m stops hand out rest j b lt broke some = by_hand broke.is.hand refl where
-    by_hand : (o : Option Event) → broke.is.hand ≡ o → IsNextIn (phases ++ events ∷ rest) new.machine.entries event
+  -- a bearer that was broken off, whose next event was this
+  record BrokeAt (event : Event) : Type 0 where
+    at : ℕ
+    like : BearerOf F
+    within : at < length w.bearers
+    broke : Broke at (slice_index_or w.before at like).number (map handle (list_at events at)) (slice_index_or w.bearers at like)
+    next : IsNext event broke.left
+
+  broke_at : (event : Event) → event_in new.machine.hand ≡ Some event → (j : ℕ) (b : BearerOf F) (lt : j < length w.bearers)
+      → Broke j (slice_index_or w.before j b).number (map handle (list_at events j)) (slice_index_or w.bearers j b)
+      → filter has_event (slice_index_or w.bearers j b).pass.own ≢ [] → BrokeAt event
+  broke_at event hand j b lt broke some = by_hand broke.is.hand refl where
+    by_hand : (o : Option Event) → broke.is.hand ≡ o → BrokeAt event
     by_hand None is =
         absurd (some (ap (filter has_event) (broke.is.own ∙ ap (λ o. broke.is.before ++ (broke.is.at, M.Stopped o) ∷ []) is) ∙ filter-append has_event broke.is.before ((broke.is.at, M.Stopped None) ∷ [])
         ∙ append-nil (filter has_event broke.is.before) ∙ no_event broke.is.before broke.is.did.entries broke.is.did.own_are))
@@ -140,36 +136,17 @@ module _ {F : Type 0} (phases : List (List (List Event))) (old new : NodeView F)
         (subst (λ l. Contains l (broke.is.at, M.Stopped (Some ev))) (sym own) (Contains-append_right broke.is.before ((broke.is.at, M.Stopped (Some ev)) ∷ []) (broke.is.at, M.Stopped (Some ev)) (0, omega arith, refl))) in
         let marks = came.marks ∙ ap (λ o. enumerate_from (length old.machine.entries) (handled_marks came.more came.moves ++ stop_marks new.stops o)) hand in
         let same : ev ≡ event = one_event (length old.machine.entries) came.more came.moves new.stops event ev broke.is.at (subst (λ l. Contains l (broke.is.at, M.Stopped (Some ev))) marks held) in
-        let next = subst (λ x. IsNext x broke.left) same (broke.is.next ev is) in
-        let here = next_out (list_at events j) broke.is.did.entries (slice_index_or w.bearers j b).lines.items event broke.left broke.is.did.walks next out in
-        let own_by : filter (is_by j) (slice_index_or w.bearers j b).pass.own ≡ filter (is_by j) broke.is.before = ap (filter (is_by j)) broke.is.own ∙ stop_dropped j broke.is.at broke.is.hand broke.is.before in
-        let kept : AreMarksAt (filter (is_by j) (slice_index_or w.bearers j b).pass.own) broke.is.did.entries =
-        subst (λ l. AreMarksAt l broke.is.did.entries) (sym (own_by ∙ keep_mine j broke.is.before broke.is.did.entries broke.is.did.own_are broke.is.did.bearer)) broke.is.did.own_are in
-        let p = (part_at old new d e events counts dones w memory few j b lt).did in
-        let mine = filter (is_by j) (slice_index_or w.bearers j b).pass.own in
-        let entries : of_bearer j part.entries ≡ broke.is.did.entries =
-        entries_at old new d e events counts dones w memory few j b lt ∙ sym (placed_marks mine p.entries p.kept) ∙ placed_marks mine broke.is.did.entries kept in
-        let through : length (outs (entries_by j new.machine.entries)) ≡ length (events_of phases j) + length (outs (map (λ (q : Placed). q.entry) broke.is.did.entries)) =
-        ap length (outs_by j) ∙ length-append (events_of phases j) (outs (map (λ (q : Placed). q.entry) (of_bearer j part.entries)))
-        ∙ ap (λ l. length (events_of phases j) + length (outs (map (λ (q : Placed). q.entry) l))) entries in
-        record {
-          bearer = j;
-          next = ap (λ l. slice_get l (length (outs (entries_by j new.machine.entries)))) (events_more j rest) ∙ ap (slice_get (events_of phases j ++ (list_at events j ++ events_of rest j))) through
-              ∙ get_shift (events_of phases j) (list_at events j ++ events_of rest j) (length (outs (map (λ (q : Placed). q.entry) broke.is.did.entries)))
-              ∙ get_longer (list_at events j) (events_of rest j) (length (outs (map (λ (q : Placed). q.entry) broke.is.did.entries))) event here;
-        }
+        record { at = j; like = b; within = lt; broke = broke; next = subst (λ x. IsNext x broke.left) same (broke.is.next ev is) }
 
-  by_stop : (event : Event) (m : ℕ) → new.stops ≡ suc m → event_in new.machine.hand ≡ Some event → is_outside event ≡ true → (rest : List (List (List Event)))
-      → (j : ℕ) (b : BearerOf F) (lt : j < length w.bearers) → (s : Option Stop) → (slice_index_or w.bearers j b).stop ≡ s
-      → Worked j (list_at events j) (slice_index_or w.before j b) (slice_index_or w.bearers j b) → filter has_event (slice_index_or w.bearers j b).pass.own ≢ []
-      → IsNextIn (phases ++ events ∷ rest) new.machine.entries event
-  by_stop event m stops hand out rest j b lt None is worked some =
+  by_stop : (event : Event) → event_in new.machine.hand ≡ Some event → (j : ℕ) (b : BearerOf F) (lt : j < length w.bearers) → (s : Option Stop) → (slice_index_or w.bearers j b).stop ≡ s
+      → Worked j (list_at events j) (slice_index_or w.before j b) (slice_index_or w.bearers j b) → filter has_event (slice_index_or w.bearers j b).pass.own ≢ [] → BrokeAt event
+  by_stop event hand j b lt None is worked some =
       let did = worked.did is in
       absurd (some (no_event (slice_index_or w.bearers j b).pass.own did.entries did.own_are))
-  by_stop event m stops hand out rest j b lt (Some S.Closed) is worked some = next_of event m stops hand out rest j b lt (worked.broke S.Closed is) some
-  by_stop event m stops hand out rest j b lt (Some S.Memory) is worked some =
+  by_stop event hand j b lt (Some S.Closed) is worked some = broke_at event hand j b lt (worked.broke S.Closed is) some
+  by_stop event hand j b lt (Some S.Memory) is worked some =
       absurd (memory j (done_of b) (omega (arith, lt, ap length w.left, length-map w.bearers done_of)) (ap (λ xs. (slice_index_or xs j (done_of b)).stop) w.left ∙ ap (λ x. x.stop) (index_map done_of w.bearers j b (done_of b) lt) ∙ is))
-  by_stop event m stops hand out rest j b lt (Some S.Flash) is worked some = next_of event m stops hand out rest j b lt (worked.broke S.Flash is) some
+  by_stop event hand j b lt (Some S.Flash) is worked some = broke_at event hand j b lt (worked.broke S.Flash is) some
 
   -- if no bearer had a mark with an event, the node had none
   nobody : (event : Event) (m : ℕ) → new.stops ≡ suc m → event_in new.machine.hand ≡ Some event → ((j : ℕ) → j < length lists → j ≢ 0 → filter has_event (slice_index_or lists j []) ≡ []) → ⊥
@@ -185,22 +162,91 @@ module _ {F : Type 0} (phases : List (List (List Event))) (old new : NodeView F)
       let within : j < length w.bearers = omega (arith, lt, lists_long) in
       ap (filter has_event) (index_map own_of w.bearers j b [] within) ∙ all j within
 
-  by_list : (bs : List (BearerOf F)) → w.bearers ≡ bs → (event : Event) (m : ℕ) → new.stops ≡ suc m → event_in new.machine.hand ≡ Some event → is_outside event ≡ true → (rest : List (List (List Event)))
-      → IsNextIn (phases ++ events ∷ rest) new.machine.entries event
-  by_list [] is event m stops hand out rest = absurd (nobody event m stops hand (λ j lt n. absurd (omega (arith, lt, lists_long, ap length is, pos j n)))) where
+  by_list : (bs : List (BearerOf F)) → w.bearers ≡ bs → (event : Event) (m : ℕ) → new.stops ≡ suc m → event_in new.machine.hand ≡ Some event → BrokeAt event
+  by_list [] is event m stops hand = absurd (nobody event m stops hand (λ j lt n. absurd (omega (arith, lt, lists_long, ap length is, pos j n)))) where
     pos : (j : ℕ) → j ≢ 0 → 0 < j
     pos zero n = absurd (n refl)
     pos (suc j) n = omega arith
-  by_list (b ∷ bs) is event m stops hand out rest =
+  by_list (b ∷ bs) is event m stops hand =
       ⊎_elim (λ all. absurd (nobody event m stops hand (all_lists b all)))
-      (λ found. by_stop event m stops hand out rest found.0 b found.1 (slice_index_or w.bearers found.0 b).stop refl (w.worked found.0 b (omega (arith, found.1, w.long))) found.2)
+      (λ found. by_stop event hand found.0 b found.1 (slice_index_or w.bearers found.0 b).stop refl (w.worked found.0 b (omega (arith, found.1, w.long))) found.2)
       (find b (length w.bearers) (omega arith))
 
-  pub next_in : (event : Event) (m : ℕ) → new.stops ≡ suc m → event_in new.machine.hand ≡ Some event → is_outside event ≡ true → (rest : List (List (List Event)))
-      → IsNextIn (phases ++ events ∷ rest) new.machine.entries event
-  next_in event m stops hand out rest = by_list w.bearers refl event m stops hand out rest
+  found_at : (event : Event) (n : ℕ) → new.stops ≡ n → 0 < new.stops → event_in new.machine.hand ≡ Some event → BrokeAt event
+  found_at event zero is some hand = absurd (omega (arith, is, some))
+  found_at event (suc m) is some hand = by_list w.bearers refl event m is hand
 
-  pub next_by_stops : (event : Event) (n : ℕ) → new.stops ≡ n → 0 < new.stops → event_in new.machine.hand ≡ Some event → is_outside event ≡ true → (rest : List (List (List Event)))
-      → IsNextIn (phases ++ events ∷ rest) new.machine.entries event
-  next_by_stops event zero is some hand out rest = absurd (omega (arith, is, some))
-  next_by_stops event (suc m) is some hand out rest = next_in event m is hand out rest
+  entries_of : (event : Event) (x : BrokeAt event) → of_bearer x.at part.entries ≡ x.broke.is.did.entries
+  entries_of event x =
+      let j = x.at in
+      let broke = x.broke in
+      let mine = filter (is_by j) (slice_index_or w.bearers j x.like).pass.own in
+      let own_by : mine ≡ filter (is_by j) broke.is.before = ap (filter (is_by j)) broke.is.own ∙ stop_dropped j broke.is.at broke.is.hand broke.is.before in
+      let kept : AreMarksAt mine broke.is.did.entries =
+      subst (λ l. AreMarksAt l broke.is.did.entries) (sym (own_by ∙ keep_mine j broke.is.before broke.is.did.entries broke.is.did.own_are broke.is.did.bearer)) broke.is.did.own_are in
+      let p = (part_at old new d e events counts dones w memory few j x.like x.within).did in
+      entries_at old new d e events counts dones w memory few j x.like x.within ∙ sym (placed_marks mine p.entries p.kept) ∙ placed_marks mine broke.is.did.entries kept
+
+  lines_at : (j : ℕ) (b : BearerOf F) → j < length w.bearers → list_at part.sends j ≡ (slice_index_or w.bearers j b).lines.items
+  lines_at j b lt =
+      list_at_map lines_of dones j (done_of b) (omega (arith, lt, ap length w.left, length-map w.bearers done_of))
+      ∙ ap lines_of (ap (λ xs. slice_index_or xs j (done_of b)) w.left ∙ index_map done_of w.bearers j b (done_of b) lt)
+
+  -- what it left of its part begins with that event
+  here_at : (event : Event) → is_outside event ≡ true → (rest : List (List (List Event))) → BrokeAt event → HandComes event (events ∷ rest) (part ∷ [])
+  here_at event out rest x =
+      let tasks = map handle (list_at events x.at) in
+      let lines = (slice_index_or w.bearers x.at x.like).lines.items in
+      let next = next_task (list_at events x.at) x.broke.is.did.entries lines event x.broke.left x.broke.is.did.walks x.next out in
+      let does : Does events part x.at (handle event ∷ next.0) =
+      subst (λ es. Walks tasks es (list_at part.sends x.at) (handle event ∷ next.0)) (sym (entries_of event x))
+      (subst (λ ls. Walks tasks x.broke.is.did.entries ls (handle event ∷ next.0)) (sym (lines_at x.at x.like x.within))
+      (subst (λ left. Walks tasks x.broke.is.did.entries lines left) next.1 x.broke.is.did.walks)) in
+      here x.at next.0 does
+
+  module _ (phases : List (List (List Event))) (h : AreHandledAll phases old.machine.entries) where
+    by_bearer : (k : ℕ) → entries_by k new.machine.entries ≡ entries_by k old.machine.entries ++ entries_by k came.more
+    by_bearer k = ap (entries_by k) came.is ∙ filter-append (λ (x : Entry). x.bearer == k) old.machine.entries came.more
+
+    more_by : (k : ℕ) → map (λ (q : Placed). q.entry) (of_bearer k part.entries) ≡ entries_by k came.more
+    more_by k = ap (λ l. map (λ (q : Placed). q.entry) (of_bearer k l)) came.placed ∙ of_bearer_from k (length old.machine.entries) came.more
+
+    outs_by : (k : ℕ) → outs (entries_by k new.machine.entries) ≡ events_of phases k ++ outs (map (λ (q : Placed). q.entry) (of_bearer k part.entries))
+    outs_by k =
+        ap outs (by_bearer k) ∙ outs_append (entries_by k old.machine.entries) (entries_by k came.more) ∙ ap (λ l. l ++ outs (entries_by k came.more)) (h k)
+        ∙ ap (λ l. events_of phases k ++ outs l) (sym (more_by k))
+
+    events_more : (k : ℕ) (rest : List (List (List Event))) → events_of (phases ++ events ∷ rest) k ≡ events_of phases k ++ (list_at events k ++ events_of rest k)
+    events_more k rest = flat_map-append (λ (evs : List (List Event)). list_at evs k) phases (events ∷ rest)
+
+    pub handled_more : AreThrough dones → AreHandledAll (phases ++ events ∷ []) new.machine.entries
+    handled_more through k =
+        let p = (parts_of_phase old new d e events counts dones w memory few k).0 in
+        let does : Does events part k [] = subst (Does events part k) (p.all through) p.does in
+        outs_by k ∙ ap (λ l. events_of phases k ++ l) (outs_all (list_at events k) (of_bearer k part.entries) (list_at part.sends k) does ∙ sym (append-nil (list_at events k))) ∙ sym (events_more k [])
+
+    next_at : (event : Event) → is_outside event ≡ true → (rest : List (List (List Event))) → BrokeAt event → IsNextIn (phases ++ events ∷ rest) new.machine.entries event
+    next_at event out rest x =
+        let j = x.at in
+        let did = x.broke.is.did in
+        let handled = length (outs (map (λ (q : Placed). q.entry) did.entries)) in
+        let now = next_out (list_at events j) did.entries (slice_index_or w.bearers j x.like).lines.items event x.broke.left did.walks x.next out in
+        let through : length (outs (entries_by j new.machine.entries)) ≡ length (events_of phases j) + handled =
+        ap length (outs_by j) ∙ length-append (events_of phases j) (outs (map (λ (q : Placed). q.entry) (of_bearer j part.entries)))
+        ∙ ap (λ l. length (events_of phases j) + length (outs (map (λ (q : Placed). q.entry) l))) (entries_of event x) in
+        record {
+          bearer = j;
+          next = ap (λ l. slice_get l (length (outs (entries_by j new.machine.entries)))) (events_more j rest) ∙ ap (slice_get (events_of phases j ++ (list_at events j ++ events_of rest j))) through
+              ∙ get_shift (events_of phases j) (list_at events j ++ events_of rest j) handled ∙ get_longer (list_at events j) (events_of rest j) handled event now;
+        }
+
+    pub next_in : 0 < new.stops → (event : Event) → event_in new.machine.hand ≡ Some event → is_outside event ≡ true → (rest : List (List (List Event))) → IsNextIn (phases ++ events ∷ rest) new.machine.entries event
+    next_in some event hand out rest = next_at event out rest (found_at event new.stops refl some hand)
+
+  pub in_hand : (phases : List (List (List Event))) (sends : List (List Sent)) → AreDone phases old.machine.entries sends counts → 0 < new.stops → (event : Event) → event_in new.machine.hand ≡ Some event → is_outside event ≡ true
+      → (rest : List (List (List Event))) → IsInHand (phases ++ events ∷ rest) new.machine.entries (both_of sends (map lines_of dones)) event
+  in_hand phases sends h some event hand out rest = record {
+    parts = h.parts ++ part ∷ [];
+    fall = fall_more phases old new d e events counts dones sends h w memory few none;
+    comes = behind_whole event (events ∷ rest) (part ∷ []) (all_parts false phases h.parts h.done) refl (here_at event out rest (found_at event new.stops refl some hand));
+  }

@@ -16,7 +16,7 @@ use Rattle.node_phase.specs.declared.bearers.Done.{Done}
 use Rattle.node_phase.specs.Part.{AreThrough, HadMemory, lines_of, number_at, part_of}
 use Rattle.node_phase.specs.Worked.{WasPhase}
 use Rattle.node_phase.proofs.Parting.{parts_of_phase}
-use Rattle.life_laws.specs.Phases.{AreDone, AreNumbered, AreOrdered, FallInto, both_of, entries_by}
+use Rattle.life_laws.specs.Phases.{AreDone, AreNumbered, AreOrdered, FallInto, PhasesDone, both_of, entries_by}
 use Rattle.life_laws.proofs.Placing.{CameTo, came_to, list_at_both, numbers_of, of_bearer_from, placed_append, range_append}
 
 pub none_done : (sends : List (List Sent)) (counts : List ℕ) → ((k : ℕ) → list_at sends k ≡ []) → ((k : ℕ) → number_at counts k ≡ 0) → AreDone [] [] sends counts
@@ -27,11 +27,16 @@ none_done sends counts empty zeros = record {
   numbered = λ k. record { numbers = refl; count = zeros k };
 }
 
+-- the parts of phases that are through are whole
+pub all_parts : (is_cut : Bool) (phases : List (List (List Event))) (parts : List Part) → PhasesDone phases parts → PartsOf is_cut phases parts
+all_parts is_cut phases parts h =
+    subst (PartsOf is_cut phases) (append-nil parts) (subst (λ ps. PartsOf is_cut ps (parts ++ [])) (append-nil phases) (h.before is_cut [] [] ends))
+
 pub ordered : (is_cut : Bool) (phases : List (List (List Event))) (entries : List Entry) (sends : List (List Sent)) (counts : List ℕ) → AreDone phases entries sends counts → AreOrdered is_cut phases entries sends
 ordered is_cut phases entries sends counts h = record {
   parts = h.parts;
   fall = h.fall;
-  parts_are = subst (PartsOf is_cut phases) (append-nil h.parts) (subst (λ ps. PartsOf is_cut ps (h.parts ++ [])) (append-nil phases) (h.done.before is_cut [] [] ends));
+  parts_are = all_parts is_cut phases h.parts h.done;
 }
 
 module _ {F : Type 0} (phases : List (List (List Event))) (old new : NodeView F) (d e : DrawerView) (events : List (List Event)) (counts : List ℕ) (dones : List Done) (sends : List (List Sent))
@@ -45,7 +50,7 @@ module _ {F : Type 0} (phases : List (List (List Event))) (old new : NodeView F)
   from_zero : 0 + length old.machine.entries ≡ length old.machine.entries
   from_zero = omega arith
 
-  fall_more : FallInto new.machine.entries (both_of sends (map lines_of dones)) (h.parts ++ part ∷ [])
+  pub fall_more : FallInto new.machine.entries (both_of sends (map lines_of dones)) (h.parts ++ part ∷ [])
   fall_more = record {
     entries_are =
         ap (placed_from 0) came.is ∙ placed_append 0 old.machine.entries came.more ∙ ap (λ n. placed_from 0 old.machine.entries ++ placed_from n came.more) from_zero

@@ -107,3 +107,15 @@ next_by events es event (write i j e job ∷ left) r next out = absurd next
 pub next_out : (events : List Event) (es : List Placed) (ls : List Sent) (event : Event) (left : List Task) → Walks (map (λ e. handle e) events) es ls left → IsNext event left → is_outside event ≡ true
     → slice_get events (length (outs (map (λ p. p.entry) es))) ≡ Some event
 next_out events es ls event left w next out = next_by events es event left (walk_outs w (inside_map events)) next out
+
+-- and it is the next task
+next_task_by : (events : List Event) (es : List Placed) (event : Event) (left : List Task) → Outs (map (λ e. handle e) events) es left → IsNext event left → is_outside event ≡ true
+    → (tasks : List Task) × (left ≡ handle event ∷ tasks)
+next_task_by events es event [] r next out = absurd next
+next_task_by events es event (handle e ∷ left) r next out = (left, ap (λ x. handle x ∷ left) next.0)
+next_task_by events es event (follow e ∷ left) r next out = absurd (true≢false (sym out ∙ ap is_outside (sym next) ∙ r.inside.0))
+next_task_by events es event (write i j e job ∷ left) r next out = absurd next
+
+pub next_task : (events : List Event) (es : List Placed) (ls : List Sent) (event : Event) (left : List Task) → Walks (map (λ e. handle e) events) es ls left → IsNext event left → is_outside event ≡ true
+    → (tasks : List Task) × (left ≡ handle event ∷ tasks)
+next_task events es ls event left w next out = next_task_by events es event left (walk_outs w (inside_map events)) next out

@@ -62,6 +62,7 @@ origin_of chip n = record {
   saved = (chip n.flash).setting.saved;
   moment = (chip n.flash).setting.moment;
   called = (chip n.flash).setting.called;
+  programmed = (chip n.flash).setting.programmed;
 }
 
 -- a seat that was told these words knows where the counter had been moved to last

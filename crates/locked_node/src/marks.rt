@@ -42,4 +42,6 @@ pub struct Origin<F> {
     pub moment: u64,
     /// How many program and erase calls had been counted then.
     pub called: u64,
+    /// How many octets the program calls among them had been given.
+    pub programmed: u64,
 }

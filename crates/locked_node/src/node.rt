@@ -1,11 +1,11 @@
 //! The value behind the lock.
 #![tactic(auto)]
 
-ghost use Rattle.std.specs.Prelude.{◌≡◌, ◌≢◌, ℕ, ◌+◌, ◌<◌, ◌^◌, List, [], ◌∷◌, ◌++◌, length, drop, All, true, false, None, Some, Ok, Err, IfOk, OnOk, IfErr, IsTrue};
+ghost use Rattle.std.specs.Prelude.{◌≡◌, ◌≢◌, ℕ, ◌+◌, ◌<◌, ◌^◌, List, [], ◌∷◌, ◌++◌, length, drop, All, true, false, None, Some, Ok, Err, IfOk, OnOk, IfErr, IsTrue, max, OnErr};
 ghost use Rattle.flash_model.specs.Chip.{Chip, KeepsCount};
 ghost use Rattle.record_types.specs.declared.records.StoreRecord.{StoreRecord};
 ghost use Rattle.run_definitions.specs.Order.{is_outside};
-ghost use Rattle.seq_word.specs.Seen.{last_word};
+ghost use Rattle.seq_word.specs.Seen.{IsFoundBy, last_word};
 ghost use Rattle.seq_word.specs.Word.{seq_of};
 ghost use Rattle.store_definitions.specs.Recovered.{IsRecovered};
 ghost use Rattle.turn_lock.specs.Entries.{IsPrefix};
@@ -174,19 +174,26 @@ impl<M: Machine, F: Flash + Send + Drop> Node<M, F> {
     /// nothing changes (`nothing`). It answers the mark that is published then, another one. Where the flash failed, the bearer's mark is put.
     ///
     /// It takes what the draw answered: so for each time that a bearer reached the mark, one refill is stored at most, and none without a look
-    /// at it; and the mark is at most 256 above the counter when the words are closed (`near` of `close` in `seq_word`). It is asked for only where
-    /// an entry has a job that draws (`asked`): so a life stores none before that, as `known` tells.
+    /// at it; and the mark is at most 256 above the counter when the words are closed (`near` of `close` in `seq_word`). The bearer's seat owes a draw
+    /// behind the mark once that is published (`owes`), else it stays as it is. It is asked for only where an entry has a job that draws (`asked`): so
+    /// a life stores none before that, as `known` tells.
     ///
     /// It is refused for want of memory only where 2^32 - 1 bearers have stopped.
-    pub fn refill(&mut self, n: &Numbers, dry: Dry) -> Result<Raised, Stop>
+    pub fn refill(&mut self, n: &Numbers, drawer: &mut Drawer, dry: Dry) -> Result<Raised, Stop>
         requires made { self.old.machine.which ≡ n.now.which }
-        requires reached { dry.which ≡ n.now.which }
+        requires drawer_made { drawer.old.which ≡ n.now.which }
+        requires found { IsFoundBy dry drawer.old }
         requires seq { seq_of dry.mark < 2 ^ 24 }
         requires asked { WasAsked (node_marks self.old) }
         ensures filled { dry.mark ≡ self.old.machine.mark
             → OnOk result
             (self.new.machine
             ≡ record self.old.machine { fills = self.old.machine.fills + 1; mark = dry.mark + 256 }) }
+        ensures owes { dry.mark ≡ self.old.machine.mark
+            → OnOk result (drawer.new ≡ record drawer.old { owes = max drawer.old.owes (dry.next + 1) }) }
+        ensures stays { dry.mark ≢ self.old.machine.mark → drawer.new ≡ drawer.old }
+        ensures drawer { drawer.new ≡ record drawer.old { owes = drawer.new.owes } }
+        ensures failed { OnErr result (drawer.new ≡ drawer.old) }
         ensures nothing { dry.mark ≢ self.old.machine.mark → self.old.machine.closed ≡ false
             → (result ≡ Ok (record { seen = dry.mark; mark = self.old.machine.mark })) × (self.new ≡ self.old) }
         ensures value { IfOk result (λ r. r ≡ record { seen = dry.mark; mark = self.new.machine.mark }) }
@@ -205,7 +212,7 @@ impl<M: Machine, F: Flash + Send + Drop> Node<M, F> {
         }
         let seen = dry.mark();
         let held = &mut *self.held;
-        match held.machine.refill(n, &mut held.flash, dry) {
+        match held.machine.refill(n, &mut held.flash, drawer, dry) {
             Ok(mark) => Ok(Raised { seen, mark }),
             Err(Stop::Memory) => Err(Stop::Memory),
             Err(Stop::Closed) => {

@@ -94,7 +94,7 @@ pub record Powered (image : List ℕ → Type 0) (steps : List PlanStep) (old st
   pub may : HasOneArm steps → MayFollow (behind_arm steps) start.setting.arm
 
 pub powered : (image : List ℕ → Type 0) (steps : List PlanStep) (old cycled start : Chip) → IsNodeFlash image old → KeepsCount old cycled → (IsTrue old.honest → IsFresh cycled) → (IsTrue old.honest → old.images cycled.now)
-    → cycled.setting ≡ record { faults = old.faults; arm = None; saved = cycled.now; moment = cycled.moment; called = 0; cycles = old.setting.cycles + 1 } → cycled.changes ≡ 0 → cycled.erases ≡ 0 → cycled.octets ≡ 0 → cycled.reads ≡ 0 → IsArmedFirst steps cycled start → Powered image steps old start
+    → cycled.setting ≡ record { faults = old.faults; arm = None; saved = cycled.now; moment = cycled.moment; called = 0; programmed = 0; cycles = old.setting.cycles + 1 } → cycled.changes ≡ 0 → cycled.erases ≡ 0 → cycled.octets ≡ 0 → cycled.reads ≡ 0 → IsArmedFirst steps cycled start → Powered image steps old start
 powered image steps old cycled start h count fresh is setting none unerased unprogrammed unread armed =
     let cold = fresh h.honest in
     let same = armed.same cold.honest in

@@ -1,5 +1,5 @@
 -- What a source of phases was told, for one phase more.
-use Rattle.std.proofs.Common.{◌≡◌, ◌∙◌, ℕ, ◌+◌, ◌≤◌, List, [], ◌∷◌, ◌++◌, length, refl, sym, ap, subst, append-nil, append_assoc, arith}
+use Rattle.std.proofs.Common.{◌≡◌, ℕ, ◌+◌, ◌≤◌, List, [], ◌∷◌, ◌++◌, length, refl, sym, subst, append-nil, append_assoc, arith}
 use Rattle.flash_model.specs.Chip.{Chip}
 use Rattle.mesh_types.specs.declared.events.Event.{Event}
 use Rattle.mesh_types.specs.declared.history.Entry.{Entry}
@@ -10,7 +10,7 @@ use Rattle.event_definitions.specs.Role.{Role}
 use Rattle.store_definitions.specs.Recovered.{IsRecovered}
 use Rattle.locked_node.specs.Node.{NodeView}
 use Rattle.locked_node.specs.Stands.{IsDueNode, IsNode}
-use Rattle.mesh_node.specs.Due.{AreDue, IsDueBehind, IsDueSince, is_any}
+use Rattle.mesh_node.specs.Due.{AreDue, IsDueSince, is_any}
 use Rattle.mesh_node.specs.Told.{GivesEach, PhaseDid, SourceSteps, entries_told}
 
 -- it gave one phase more

@@ -2,7 +2,7 @@
 use Rattle.std.proofs.Common.{◌≡◌, ◌≢◌, ◌∙◌, inl, inr, ◌+◌, ℕ, zero, suc, Option, ◌<◌, ◌≤◌, true, false, true≢false, Bool, List, [], Vec, Global, length, map, Some, None, refl, sym, ap, subst, arith}
 use Rattle.std.specs.Prelude.{◌^◌, All, IfSome, IsTrue}
 use Rattle.std.proofs.lemmas.List.{length-map}
-use Rattle.flash_model.specs.Arming.{IsCarriedOut, IsExplained, IsReached, IsWithin as IsBeforeTorn, ReadsAtMost}
+use Rattle.flash_model.specs.Arming.{FailsOnce, IsCarriedOut, IsExplained, IsReached, IsTornLast, IsWithin as IsBeforeTorn, ReadsAtMost, failed_since}
 use Rattle.flash_model.proofs.Runs.{past_more}
 use Rattle.flash_model.specs.Chip.{Arm, CallCount, Chip, Keeps, KeepsCount, Setting, count_of}
 use Rattle.machine_contract.specs.Moved.{HasMoved}
@@ -27,6 +27,7 @@ use Rattle.store_definitions.specs.Wear.{COMPACTION_OCTETS, MOUNT_READS}
 use Rattle.locked_node.specs.Asked.{AreAsked}
 use Rattle.locked_node.specs.Node.{NodeView}
 use Rattle.locked_node.specs.Stands.{HasMachine, IsLater, IsNode}
+use Rattle.life_laws.specs.Hands.{HoldsNext}
 use Rattle.life_laws.specs.Pairs.{IsFromMove, PairsSo}
 use Rattle.life_laws.proofs.OneLife.{idle_life}
 use Rattle.life_laws.proofs.Pairing.{from_all}
@@ -36,15 +37,15 @@ use Rattle.mesh_node.specs.Drawn.{TellsDrawn, opened_at}
 use Rattle.mesh_node.specs.Given.{WasGiven}
 use Rattle.mesh_node.proofs.Placed.{given_first}
 use Rattle.mesh_node.specs.Going.{IsOver}
-use Rattle.mesh_node.specs.Lives.{Lives, cut_calls, found_at}
+use Rattle.mesh_node.specs.Lives.{Lives, cut_calls, found_at, no_calls}
 use Rattle.life_laws.specs.declared.plan.PlanStep.{PlanStep}
 use Rattle.life_laws.specs.Plan.{HasOneArm, life_of, steps_of}
 use Rattle.mesh_node.specs.Ran.{Ran}
 use Rattle.mesh_node.specs.Steps.{HasGiven, IsGiven, IsOfPlan, first_order}
 use Rattle.mesh_node.specs.Left.{Closes}
 use Rattle.mesh_node.proofs.Drawn.{tells_words}
-use Rattle.mesh_node.proofs.Ending.{each_life}
-use Rattle.mesh_node.proofs.Giving.{given_one, reached_some}
+use Rattle.mesh_node.proofs.Ending.{each_life, holds_next}
+use Rattle.mesh_node.proofs.Giving.{given_one, last_torn, reached_some, within_none}
 use Rattle.mesh_node.proofs.Printing.{idle_printable, sends_short}
 
 -- nothing was read before an event was handled
@@ -57,11 +58,11 @@ OpensWithin steady found log = IsTrue steady → log.opened ≡ W.CutAtStart →
 
 -- the calls of that at most, and none of another format
 abbrev pub OpensFor : List ℕ → Chip → Type 0
-OpensFor found new = (new.changes ≤ COMPACTION_CALLS) × (new.erases ≤ BANK_SECTORS) × (new.octets ≤ COMPACTION_OCTETS) × (¬ HasFormat 1 found → count_of new ≡ (found_at found).count)
+OpensFor found new = (new.changes ≤ COMPACTION_CALLS) × (new.erases ≤ BANK_SECTORS) × (new.octets ≤ COMPACTION_OCTETS) × (¬ HasFormat 1 found → count_of new ≡ no_calls)
 
 -- a life finds it so
-found_as : (start : Chip) → count_of start ≡ (found_at start.now).count → start.reads ≡ 0 → found_of start ≡ found_at start.now
-found_as start uncalled unread = λ i. record { now = start.now; count = uncalled i; reads = unread i }
+found_as : (faults : ℕ) (start : Chip) → count_of start ≡ no_calls → start.reads ≡ 0 → start.faults ≡ faults → found_of start ≡ found_at faults start.now
+found_as faults start uncalled unread failed = λ i. record { now = start.now; count = uncalled i; reads = unread i; faults = failed i }
 
 reset_or_cut : W.WasReset ≡ W.CutAtStart → ⊥
 reset_or_cut e = cc
@@ -84,7 +85,7 @@ opens_within : (start new : Chip) → start.changes ≡ 0 → MigratesOnly start
 opens_within start new none only reached =
     one_or _ (λ other. unreached new.setting.arm (subst (IsReached new.setting.arm) (ap (λ (n : CallCount). n.calls) (only.unwritten other).no_calls ∙ none) reached))
 
-opens_for : (start new : Chip) → count_of start ≡ (found_at start.now).count → MigratesOnly start new → OpensFor start.now new
+opens_for : (start new : Chip) → count_of start ≡ no_calls → MigratesOnly start new → OpensFor start.now new
 opens_for start new none only =
     let uncalled : start.changes ≡ 0 = ap (λ (n : CallCount). n.calls) none in
     let unerased : start.erases ≡ 0 = ap (λ (n : CallCount). n.erases) none in
@@ -165,13 +166,15 @@ module _ {M F : Type 0} (view : M → MachineView) (stands : FlashFound → Chip
     from = subst (λ (m : MachineView). All (All (IsFromMove (life_of log).entries m.moves)) (life_of log).sends) (sym held.shows)
         (subst (λ (es : List Entry). All (All (IsFromMove es node.machine.moves)) (life_of log).sends) (sym entries)
         (from_all node.machine.entries node.machine.moves (life_of log).sends over.pairs.drawns d.looks over.pairs.shown));
+    hand = subst (λ (m : MachineView). HoldsNext (phases_of plan) (life_of log).entries (life_of log).sends m) (sym held.shows)
+        (subst (λ (es : List Entry). HoldsNext (phases_of plan) es (life_of log).sends node.machine) (sym entries) (holds_next role image chip (phases_of plan) node d (life_of log).sends h over));
     on = ap is_on opened;
   }
 
 module _ {M F : Type 0} (view : M → MachineView) (stands : FlashFound → Chip → List StoreRecord → M → Type 0) (chip : F → Chip)
     (role : Role) (image : List ℕ → Type 0) (items : List PlanStep) (single : HasOneArm items) (old start : Chip) (left : F) (log : LifeLog)
     (is : old.images start.now) (began : start.setting.faults ≡ old.faults) (order : IsOfPlan (steps_of items) start.setting.arm) (first : start.setting.arm ≡ first_order items 0) (count : KeepsCount old start)
-    (cycled : start.setting.cycles ≡ old.setting.cycles + 1) (uncalled : count_of start ≡ (found_at start.now).count) (unread : start.reads ≡ 0) (as_read : start.setting.saved ≡ start.now) (out : (f : F) → IsCarriedOut (chip f)) where
+    (cycled : start.setting.cycles ≡ old.setting.cycles + 1) (uncalled : count_of start ≡ no_calls) (unread : start.reads ≡ 0) (as_read : start.setting.saved ≡ start.now) (out : (f : F) → IsCarriedOut (chip f)) (why : (f : F) → IsExplained (chip f)) (counted : (f : F) → (chip f).changes ≤ 4294967295) where
   abbrev plan : List Step
   plan = steps_of items
 
@@ -179,13 +182,20 @@ module _ {M F : Type 0} (view : M → MachineView) (stands : FlashFound → Chip
   new = chip left
 
   -- it hasn't failed since power was given, so its order was carried out
-  carried_out : new.steady ≡ old.steady → new.setting.faults ≡ old.faults → new.faults ≡ old.faults → IsTrue old.steady → IsBeforeTorn new.setting.arm new.changes
-  carried_out same began faults steady = out left (subst IsTrue (sym same) steady) (omega (arith, faults, began))
+  carried_out : new.steady ≡ old.steady → new.setting.faults ≡ old.faults → new.faults ≡ old.faults → IsTrue old.steady → IsBeforeTorn new.setting.arm 0 new.changes
+  carried_out same began faults steady = within_none new.setting.arm (failed_since new) new.changes (omega (arith, faults, began)) (out left (subst IsTrue (sym same) steady))
+
+  -- and where it failed, it did at the torn call, and once
+  torn_last : new.steady ≡ old.steady → new.setting.faults ≡ old.faults → FailsOnce start new → old.faults < new.faults → IsTrue old.steady → IsTornLast new.setting.arm new.changes
+  torn_last same began once failed steady =
+      let so : IsTrue new.steady = subst IsTrue (sym same) steady in
+      let was : start.faults ≡ old.faults = count.faults in
+      last_torn new.setting.arm (failed_since new) new.changes (why left so (omega (arith, began, failed))) (out left so) (omega (arith, began, once, was)) (counted left)
 
   pub lives_ran : Ran view stands chip role image plan start log left → Lives view stands chip role image plan old log left
   lives_ran r =
       let now : new.setting.faults ≡ old.faults = r.later.began ∙ began in
-      let found = found_as start uncalled unread in
+      let found = found_as old.faults start uncalled unread count.faults in
       record {
         over = r.over;
         image = start.now;
@@ -213,6 +223,7 @@ module _ {M F : Type 0} (view : M → MachineView) (stands : FlashFound → Chip
         armed = λ steady other. given_one items new.setting.arm single r.arm (r.armed (subst IsTrue (sym (r.later.steady ∙ count.steady)) steady));
         given = subst (λ f. IfSome new.setting.arm (WasGiven view (stands f) chip r.over plan)) found r.given;
         carried = λ steady whole. carried_out (r.later.steady ∙ count.steady) now (r.no_fault whole ∙ count.faults) steady;
+        torn = λ steady cut. torn_last (r.later.steady ∙ count.steady) now r.paid.once (subst (λ n. n < new.faults) now (r.cause cut)) steady;
         reads = omega (arith, r.paid.reads, unread);
         told = λ on. record {
           machine = r.told.machine;
@@ -223,13 +234,14 @@ module _ {M F : Type 0} (view : M → MachineView) (stands : FlashFound → Chip
         };
         paid = λ on. subst (λ f. IsLifeSoFar role image f new r.over (view r.told.machine)) found r.paid;
         from = λ on. r.from;
+        hand = λ on. r.hand;
         early = λ off. absurd (true≢false (sym r.on ∙ off));
       }
 
   -- a life that wasn't run
-  pub lives_idle : Keeps start new → ReadsAtMost MOUNT_READS start new → (IsTrue old.steady → log.opened ≢ W.WasReset → IsGiven plan new.setting.arm) → (u : IsUntouched image start new) → is_on log.opened ≡ false → log.drawn ≡ None → log.history.entries.items ≡ [] → log.history.refills ≡ 0 → log.sends.items ≡ []
-      → Opens (config_of u.over) log.opened log.end → (is_cut log.end ≡ true → start.faults < new.faults) → (is_cut log.end ≡ false → new.faults ≡ start.faults) → IfSome (cut_calls log.end) (λ n. n ≡ new.changes) → OpensWithin old.steady start.now log → (log.opened ≡ W.CutAtStart → OpensFor start.now new) → (log.opened ≡ W.WasReset → count_of new ≡ (found_at start.now).count) → ((config_of u.over).reset ≡ true → log.opened ≡ W.CutAtStart → count_of new ≡ (found_at start.now).count) → IsUnread log → Lives view stands chip role image plan old log left
-  lives_idle keeps most armed u off none entries refills sends opening failed stays calls within costs reset cut_reset early =
+  pub lives_idle : Keeps start new → ReadsAtMost MOUNT_READS start new → (is_cut log.end ≡ true → FailsOnce start new) → (IsTrue old.steady → log.opened ≢ W.WasReset → IsGiven plan new.setting.arm) → (u : IsUntouched image start new) → is_on log.opened ≡ false → log.drawn ≡ None → log.history.entries.items ≡ [] → log.history.refills ≡ 0 → log.sends.items ≡ []
+      → Opens (config_of u.over) log.opened log.end → (is_cut log.end ≡ true → start.faults < new.faults) → (is_cut log.end ≡ false → new.faults ≡ start.faults) → IfSome (cut_calls log.end) (λ n. n ≡ new.changes) → OpensWithin old.steady start.now log → (log.opened ≡ W.CutAtStart → OpensFor start.now new) → (log.opened ≡ W.WasReset → count_of new ≡ no_calls) → ((config_of u.over).reset ≡ true → log.opened ≡ W.CutAtStart → count_of new ≡ no_calls) → IsUnread log → Lives view stands chip role image plan old log left
+  lives_idle keeps most once armed u off none entries refills sends opening failed stays calls within costs reset cut_reset early =
       record {
         over = u.over;
         image = start.now;
@@ -255,12 +267,14 @@ module _ {M F : Type 0} (view : M → MachineView) (stands : FlashFound → Chip
         drawn = subst (TellsDrawn (life_of log)) (sym none) off;
         moved = λ runs. subst (λ o. IfSome o (λ (words : ClosedView). HasMoved role u.over log.history.entries.items log.history.refills words.advances)) (sym none) tt;
         armed = armed;
-        given = subst (λ o. IfSome o (WasGiven view (stands (found_at start.now)) chip u.over plan)) (sym (ap (λ (s : Setting). s.arm) keeps.setting ∙ first)) (given_first view (stands (found_at start.now)) chip u.over items);
+        given = subst (λ o. IfSome o (WasGiven view (stands (found_at old.faults start.now)) chip u.over plan)) (sym (ap (λ (s : Setting). s.arm) keeps.setting ∙ first)) (given_first view (stands (found_at old.faults start.now)) chip u.over items);
         carried = λ steady whole. carried_out (keeps.steady ∙ count.steady) (ap (λ (s : Setting). s.faults) keeps.setting ∙ began) (stays whole ∙ count.faults) steady;
+        torn = λ steady cut. torn_last (keeps.steady ∙ count.steady) (ap (λ (s : Setting). s.faults) keeps.setting ∙ began) (once cut) (subst (λ n. n < new.faults) count.faults (failed cut)) steady;
         reads = omega (arith, most, unread);
         told = λ on. absurd (true≢false (sym on ∙ off));
         paid = λ on. absurd (true≢false (sym on ∙ off));
         from = λ on. absurd (true≢false (sym on ∙ off));
+        hand = λ on. absurd (true≢false (sym on ∙ off));
         early = λ off. early;
       }
 
@@ -272,7 +286,7 @@ module _ {M F : Type 0} (view : M → MachineView) (stands : FlashFound → Chip
       λ steady more calls mask among. reached_some new.setting.arm new.changes (explained (subst IsTrue (sym (keeps.steady ∙ count.steady)) steady) more) in
       let now : new.setting.faults < new.faults = subst (λ n. n < new.faults) (count.faults ∙ sym began ∙ sym (ap (λ (s : Setting). s.faults) keeps.setting)) failed in
       let order' : IsOfPlan plan new.setting.arm = subst (IsOfPlan plan) (sym (ap (λ (s : Setting). s.arm) keeps.setting)) order in
-      lives_idle keeps only.most_reads (λ steady other. given_one items new.setting.arm single order' (later steady now)) u (ap is_on opened) none entries refills sends
+      lives_idle keeps only.most_reads (λ cut. only.once) (λ steady other. given_one items new.setting.arm single order' (later steady now)) u (ap is_on opened) none entries refills sends
       (subst (λ o. Opens (config_of u.over) o log.end) (sym opened) (subst (λ e. Opens (config_of u.over) W.CutAtStart e) (sym end) cut_at_start))
       (λ cut. failed) (λ off. absurd (true≢false (sym (ap is_cut end) ∙ off))) (subst (λ e. IfSome (cut_calls e) (λ n. n ≡ new.changes)) (sym end) refl)
       (λ steady cut. opens_within start new (ap (λ (n : CallCount). n.calls) uncalled) only (explained (subst IsTrue (sym (keeps.steady ∙ count.steady)) steady) now)) (λ cut. opens_for start new uncalled only)
@@ -283,7 +297,7 @@ module _ {M F : Type 0} (view : M → MachineView) (stands : FlashFound → Chip
   pub lives_reset : Keeps start new → ReadsAtMost MOUNT_READS start new → IsUnwritten start new → new.faults ≡ start.faults → (u : IsUntouched image start new) → (config_of u.over).reset ≡ true → log.opened ≡ W.WasReset → log.end ≡ Ends.Ended
       → log.drawn ≡ None → log.history.entries.items ≡ [] → log.history.refills ≡ 0 → log.sends.items ≡ [] → IsUnread log → Lives view stands chip role image plan old log left
   lives_reset keeps most unwritten same u reset opened end none entries refills sends early =
-      lives_idle keeps most (λ steady other. absurd (other opened)) u (ap is_on opened) none entries refills sends
+      lives_idle keeps most (λ cut. absurd (true≢false (sym cut ∙ ap is_cut end))) (λ steady other. absurd (other opened)) u (ap is_on opened) none entries refills sends
       (subst (λ o. Opens (config_of u.over) o log.end) (sym opened) (subst (λ e. Opens (config_of u.over) W.WasReset e) (sym end) (was_reset reset)))
       (λ cut. absurd (true≢false (sym cut ∙ ap is_cut end))) (λ off. same) (subst (λ e. IfSome (cut_calls e) (λ n. n ≡ new.changes)) (sym end) tt)
       (λ steady cut. absurd (reset_or_cut (sym opened ∙ cut))) (λ cut. absurd (reset_or_cut (sym opened ∙ cut))) (λ was. unwritten.no_calls ∙ uncalled) (λ was cut. absurd (reset_or_cut (sym opened ∙ cut))) early

@@ -8,9 +8,8 @@ use Rattle.report_definitions.specs.Record.{Life, shown}
 use Rattle.mesh_types.specs.declared.lines.Outcome.{Outcome}
 use Rattle.mesh_types.specs.declared.lines.Outcome.TheVariants as O
 use Rattle.run_definitions.specs.RunOf.{draws, is_on}
-use Rattle.seq_word.specs.Rule.{IsEndOf, once_below, passed_over, times}
+use Rattle.seq_word.specs.Rule.{IsEndOf, times}
 use Rattle.seq_word.specs.Seen.{ClosedView, DrawerView}
-use Rattle.seq_word.specs.Word.{seq_of}
 use Rattle.seq_word.specs.declared.looks.Look.TheVariants as saw
 use Rattle.seq_word.specs.declared.looks.Look.{Look}
 use Rattle.locked_node.specs.Asked.{AreAsked}

@@ -20,12 +20,24 @@ use Rattle.seq_word.specs.declared.looks.Look.TheVariants as saw
 use Rattle.store_definitions.specs.Config.{config_of}
 use Rattle.locked_node.specs.Node.{NodeView, event_in}
 use Rattle.locked_node.specs.Stands.{IsNode}
-use Rattle.life_laws.specs.Hands.{IsNextIn}
+use Rattle.life_laws.specs.Hands.{HoldsNext, IsNextIn}
 use Rattle.life_laws.specs.Pairs.{PairsSo}
 use Rattle.life_laws.specs.Phases.{AreOrdered, entries_by}
 use Rattle.life_laws.proofs.Drawing.{is_drawn, is_spent}
 use Rattle.life_laws.proofs.OneLife.{life_of}
 use Rattle.mesh_node.specs.Going.{IsOver}
+
+-- where an event is in hand a bearer stopped
+stopped_by : {F : Type 0} (role : Role) (image : List ℕ → Type 0) (chip : F → Chip) (node : NodeView F) → IsNode role image chip node → (event : Event) → node.machine.hand ≡ H.OfEvent event → 0 < node.stops
+stopped_by role image chip node h event hand = by_closed node.machine.closed refl where
+  by_closed : (b : Bool) → node.machine.closed ≡ b → 0 < node.stops
+  by_closed true is = h.stopped is
+  by_closed false is = absurd (let bad : H.OfEvent event ≡ H.Nothing = sym hand ∙ h.life.idle is in cc)
+
+-- so it comes where that bearer has it next
+pub holds_next : {F : Type 0} (role : Role) (image : List ℕ → Type 0) (chip : F → Chip) (phases : List (List (List Event))) (node : NodeView F) (d : DrawerView) (sends : List (List Sent))
+    → IsNode role image chip node → IsOver phases node d sends → HoldsNext phases node.machine.entries sends node.machine
+holds_next role image chip phases node d sends h over = λ event hand out. over.hand (stopped_by role image chip node h event hand) event (ap event_in hand) out
 
 module _ {F : Type 0} (role : Role) (image : List ℕ → Type 0) (chip : F → Chip) (plan : List Step) (node : NodeView F) (d : DrawerView) (sends : List (List Sent)) (l : Life)
     (h : IsNode role image chip node) (over : IsOver (phases_of plan) node d sends)
@@ -46,10 +58,7 @@ module _ {F : Type 0} (role : Role) (image : List ℕ → Type 0) (chip : F → 
     by_closed false is = inl (h.life.idle is)
 
   in_hand : (event : Event) → node.machine.hand ≡ H.OfEvent event → is_outside event ≡ true → IsNextIn (phases_of plan) l.entries event
-  in_hand event hand out = subst (λ es. IsNextIn (phases_of plan) es event) (sym entries) (over.next (by_closed node.machine.closed refl) event (ap event_in hand) out) where
-    by_closed : (b : Bool) → node.machine.closed ≡ b → 0 < node.stops
-    by_closed true is = h.stopped is
-    by_closed false is = absurd (let bad : H.OfEvent event ≡ H.Nothing = sym hand ∙ h.life.idle is in cc)
+  in_hand event hand out = subst (λ es. IsNextIn (phases_of plan) es event) (sym entries) (over.next (stopped_by role image chip node h event hand) event (ap event_in hand) out)
 
   pub each_life : EachRecovered (chip node.flash) (λ after. LifeOf role plan h.over l after)
   each_life content after is_image recovers =

@@ -54,6 +54,7 @@ over_whole phases node d sends counts h = record {
   numbers = λ k. (h.done.numbered k).numbers;
   pairs = h.pairs;
   next = λ some event hand out. absurd (let none : node.stops ≡ 0 = h.live in omega (arith, some, none));
+  hand = λ some event hand out. absurd (let none : node.stops ≡ 0 = h.live in omega (arith, some, none));
 }
 
 pub phases_more : (xs : List Step) (x : Step) → phases_of (xs ++ x ∷ []) ≡ phases_of xs ++ phases_of (x ∷ [])

@@ -1,7 +1,7 @@
 -- An order of the plan was given.
-use Rattle.std.proofs.Common.{◌≡◌, ◌≢◌, ◌∙◌, ℕ, zero, suc, List, [], ◌∷◌, ◌++◌, Option, Some, None, refl, sym, arith}
+use Rattle.std.proofs.Common.{◌≡◌, ◌≢◌, ◌∙◌, inl, inr, ℕ, ◌≤◌, zero, suc, List, [], ◌∷◌, ◌++◌, Option, Some, None, refl, sym, arith}
 use Rattle.std.specs.List.{Contains}
-use Rattle.flash_model.specs.Arming.{IsReached}
+use Rattle.flash_model.specs.Arming.{IsReached, IsTornLast, IsWithin}
 use Rattle.flash_model.specs.Chip.{Arm, Chip}
 use Rattle.mesh_types.specs.declared.events.Event.{Event}
 use Rattle.run_definitions.specs.Order.{arm, phase}
@@ -66,3 +66,14 @@ given_one xs (Some x) one is h calls mask among = arm_parts x.calls x.mask calls
 pub reached_some : (o : Option Arm) (n : ℕ) → IsReached o n → o ≢ None
 reached_some None n h = absurd h
 reached_some (Some a) n h = λ none. cc
+
+-- where no call failed, only those before the torn one were begun
+pub within_none : (o : Option Arm) (failed n : ℕ) → failed ≡ 0 → IsWithin o failed n → IsWithin o 0 n
+within_none None failed n none h = tt
+within_none (Some a) failed n none h = omega (arith, none, h)
+
+-- where one failed, it was the torn one
+pub last_torn : (o : Option Arm) (failed n : ℕ) → IsReached o n → IsWithin o failed n → failed ≤ 1 → n ≤ 4294967295 → IsTornLast o n
+last_torn None failed n reached within once few = reached
+last_torn (Some a) failed n (inl more) within once few = omega (arith, more, within, once, few)
+last_torn (Some a) failed n (inr full) within once few = omega (arith, full, within, once)

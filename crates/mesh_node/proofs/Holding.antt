@@ -158,7 +158,7 @@ module _ {F : Type 0} (role : Role) (image : List ℕ → Type 0) (chip : F → 
       placed = h.placed;
       each = h.each;
       many = h.many;
-      ordered = record { ordered = h.ordered.ordered; numbers = h.ordered.numbers; pairs = h.ordered.pairs; next = h.ordered.next };
+      ordered = record { ordered = h.ordered.ordered; numbers = h.ordered.numbers; pairs = h.ordered.pairs; next = h.ordered.next; hand = h.ordered.hand };
       going = λ off. let going = h.going off in record { done = going.done; pairs = going.pairs; handled = going.handled; live = going.live; many = going.many };
       through = h.through;
     }

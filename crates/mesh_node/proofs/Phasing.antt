@@ -27,7 +27,7 @@ use Rattle.mesh_node.specs.Steps.{IsSameNode}
 use Rattle.mesh_node.specs.Told.{IsPartDone, IsPrintablePhase, did_of, part_told}
 use Rattle.mesh_node.specs.declared.phases.Seats.{Seats}
 use Rattle.mesh_node.specs.declared.told.PhaseLog.{PhaseLog}
-use Rattle.mesh_node.proofs.Stepping.{going_more, over_by, same_arm, same_called, same_node, same_saved}
+use Rattle.mesh_node.proofs.Stepping.{going_more, over_by, same_arm, same_called, same_node, same_programmed, same_saved}
 use Rattle.mesh_node.proofs.Telling.{closed_by, drop_front, going_taken, over_taken, phase_short, taken_of, told_more}
 
 -- a phase, the seats before and behind it, and what was taken of the node
@@ -78,6 +78,9 @@ module _ {F M Reader Reading : Type 0} {role : Role} {image : List ℕ → Type 
   pub called_is : (chip left.flash).setting.called ≡ (chip old.flash).setting.called
   called_is = ap (λ (n : NodeView F). (chip n.flash).setting.called) p.taken ∙ same_called chip old new p.origin
 
+  pub programmed_is : (chip left.flash).setting.programmed ≡ (chip old.flash).setting.programmed
+  programmed_is = ap (λ (n : NodeView F). (chip n.flash).setting.programmed) p.taken ∙ same_programmed chip old new p.origin
+
   pub moment_is : (chip left.flash).setting.moment ≡ (chip old.flash).setting.moment
   moment_is = ap (λ (n : NodeView F). (chip n.flash).setting.moment) p.taken ∙ (same_saved chip old new p.origin).1
 
@@ -100,7 +103,7 @@ module _ {F M Reader Reading : Type 0} {role : Role} {image : List ℕ → Type 
       subst (IsNode role image chip) (sym p.taken) (record {
         over = k.over;
         read = k.read;
-        life = record { told = l.told; entries = l.entries; handled = l.handled; moves = l.moves; few = l.few; elements = l.elements; node = l.node; left = l.left; idle = l.idle; failed = l.failed; in_hand = l.in_hand; hand = l.hand; paid = l.paid; reads = l.reads };
+        life = record { told = l.told; entries = l.entries; handled = l.handled; moves = l.moves; few = l.few; elements = l.elements; node = l.node; left = l.left; idle = l.idle; failed = l.failed; no_fault = l.no_fault; once = l.once; in_hand = l.in_hand; hand = l.hand; paid = l.paid; reads = l.reads };
         few = k.few;
         live = k.live;
         stopped = k.stopped;
@@ -132,6 +135,9 @@ module _ {F M Reader Reading : Type 0} {role : Role} {image : List ℕ → Type 
       let few : length p.was.before < 1024 = omega (arith, sym (length-map p.was.before (λ b. b.number)), ap length p.was.numbers, p.between.few) in
       ap (λ (d : DrawerView). d.parts) p.drawer ∙ p.was.parts (subst (λ n. length p.was.before < n) (sym p.between.parts) few) ∙ p.between.parts
 
+  pub free_is : now.drawer.owes ≡ 0
+  free_is = ap (λ (d : DrawerView). d.owes) p.drawer ∙ p.was.free p.between.free
+
   pub between_is : closed ≡ false → IsBetween now left
   between_is off =
       let same = same_node chip old new p.origin in
@@ -140,6 +146,7 @@ module _ {F M Reader Reading : Type 0} {role : Role} {image : List ℕ → Type 
         made = same.which ∙ p.between.made ∙ sym words;
         draws = ap (λ (d : DrawerView). d.which) p.drawer ∙ p.which ∙ p.between.draws ∙ sym words;
         parts = parts_is;
+        free = free_is;
         few = subst (λ n. n ≤ BEARERS) (sym many_is) p.between.few;
         live = none_is off;
         taken = refl;

@@ -16,7 +16,7 @@ use Rattle.life_laws.specs.Phases.{AreOrdered, both_of}
 use Rattle.life_laws.specs.Stopped.{HasStopped}
 use Rattle.life_laws.proofs.Ordering.{broken_off, done_more, numbered_more}
 use Rattle.life_laws.proofs.Pairing.{pairs_more}
-use Rattle.life_laws.proofs.Handing.{handled_more, next_by_stops}
+use Rattle.life_laws.proofs.Handing.{handled_more, in_hand, next_in}
 use Rattle.life_laws.proofs.Stopping.{none_stopped, some_stopped}
 use Rattle.mesh_node.specs.Going.{AreTold, IsBetween, IsGoing, IsOver}
 use Rattle.mesh_node.specs.declared.phases.Seats.{Seats}
@@ -40,7 +40,7 @@ module _ {F : Type 0} (phases : List (List (List Event))) (old new : NodeView F)
   going_more through = record {
     done = done_more phases old new d e events counts dones sends h.done w memory at_most h.live through;
     pairs = pairs_more old new d e events counts dones sends h.pairs w memory h.live h.many;
-    handled = handled_more phases old new d e events counts dones h.handled w memory at_most h.live through;
+    handled = handled_more old new d e events counts dones w memory at_most h.live phases h.handled through;
     live = none_stopped old new d e events counts dones w h.live through;
     many = length_both sends (map lines_of dones) (omega (arith, h.many, dones_long, length-map dones lines_of)) ∙ omega (arith, h.many, dones_long, length-map dones (λ (x : Done). x.number));
   }
@@ -53,7 +53,8 @@ module _ {F : Type 0} (phases : List (List (List Event))) (old new : NodeView F)
             (broken_off phases old new d e events counts dones sends h.done w memory at_most h.live rest);
         numbers = λ k. (numbered_more phases old new d e events counts dones sends h.done w memory at_most h.live k).numbers;
         pairs = pairs_more old new d e events counts dones sends h.pairs w memory h.live h.many;
-        next = λ more event hand out. next_by_stops phases old new d e events counts dones h.handled w memory at_most h.live event new.stops refl more hand out rest;
+        next = λ more event hand out. next_in old new d e events counts dones w memory at_most h.live phases h.handled more event hand out rest;
+        hand = λ more event hand out. in_hand old new d e events counts dones w memory at_most h.live phases sends h.done more event hand out rest;
       }
 
 -- the order that a flash was given, as the origin tells it
@@ -78,6 +79,9 @@ module _ {F : Type 0} (chip : F → Chip) (old new : NodeView F) (origin : origi
   pub same_called : (chip new.flash).setting.called ≡ (chip old.flash).setting.called
   same_called = ap (λ o. o.called) origin
 
+  pub same_programmed : (chip new.flash).setting.programmed ≡ (chip old.flash).setting.programmed
+  same_programmed = ap (λ o. o.programmed) origin
+
 -- another flash makes no other node
 pub other_flash : {F : Type 0} (old new : NodeView F) (flash : F) → new ≡ record old { flash = flash } → IsSameNode old new
 other_flash old new flash frame = record { start = ap (λ v. v.start) frame; which = ap (λ v. v.machine.which) frame; elements = ap (λ v. v.machine.elements) frame }
@@ -92,4 +96,4 @@ pub told_with : {F : Type 0} (entries : List Entry) (node : NodeView F) (flash :
 told_with entries node flash h = record { entries_are = h.entries_are; taken = h.taken }
 
 pub between_with : {F M Reader Reading : Type 0} (seats : Seats M Reader Reading) (node : NodeView F) (flash : F) → IsBetween seats node → IsBetween seats (record node { flash = flash })
-between_with seats node flash h = record { made = h.made; draws = h.draws; parts = h.parts; few = h.few; live = h.live; taken = h.taken; count = h.count }
+between_with seats node flash h = record { made = h.made; draws = h.draws; parts = h.parts; free = h.free; few = h.few; live = h.live; taken = h.taken; count = h.count }

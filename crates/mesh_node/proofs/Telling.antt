@@ -58,7 +58,7 @@ pub going_taken : {F : Type 0} (phases : List (List (List Event))) (n : NodeView
 going_taken phases n d sends counts h = record { done = h.done; pairs = h.pairs; handled = h.handled; live = h.live; many = h.many }
 
 pub over_taken : {F : Type 0} (phases : List (List (List Event))) (n : NodeView F) (d : DrawerView) (sends : List (List Sent)) → IsOver phases n d sends → IsOver phases (taken_of n) d sends
-over_taken phases n d sends h = record { ordered = h.ordered; numbers = h.numbers; pairs = h.pairs; next = h.next }
+over_taken phases n d sends h = record { ordered = h.ordered; numbers = h.numbers; pairs = h.pairs; next = h.next; hand = h.hand }
 
 -- what was taken of it are the entries that came to those of before
 pub told_more : {F : Type 0} (entries : List Entry) (old new : NodeView F) → AreTold entries old → CameTo old new → new.machine.taken ≡ old.machine.taken

@@ -19,6 +19,7 @@ use Rattle.machine_contract.specs.Opening.{FlashFound, found_of}
 use Rattle.machine_contract.specs.Standing.{IsLifeSoFar}
 use Rattle.machine_contract.specs.View.{MachineView}
 use Rattle.mesh_node.specs.Given.{Stood}
+use Rattle.life_laws.specs.Hands.{HoldsNext}
 use Rattle.life_laws.specs.Pairs.{IsFromMove, PairsSo}
 use Rattle.life_laws.proofs.Pairing.{from_all}
 use Rattle.mesh_node.specs.Going.{IsOver}
@@ -27,7 +28,7 @@ use Rattle.mesh_node.specs.Told.{HasGiven, SinkSteps, SourceSteps, sends_told}
 use Rattle.mesh_node.specs.declared.told.LastStep.{LastStep}
 use Rattle.mesh_node.specs.Left.{Closes, HasLeft}
 use Rattle.mesh_node.proofs.Drawn.{tells_words}
-use Rattle.mesh_node.proofs.Ending.{each_life}
+use Rattle.mesh_node.proofs.Ending.{each_life, holds_next}
 use Rattle.mesh_node.proofs.Printing.{sends_short}
 use Rattle.mesh_node.proofs.Telling.{phases_are}
 
@@ -101,6 +102,7 @@ module _ {M F S T : Type 0} (view : M → MachineView) (stands : FlashFound → 
         (moved h.over (subst (λ o. IsRecovered (chip start).now o) begun_is read) runs);
     from = subst (λ (l : List Entry). All (All (IsFromMove l node.machine.moves)) (sends_told bearers went.did)) went.told.entries_are
         (from_all node.machine.entries node.machine.moves (sends_told bearers went.did) went.over.pairs.drawns d.looks went.over.pairs.shown);
+    hand = subst (λ (l : List Entry). HoldsNext went.phases l (sends_told bearers went.did) node.machine) went.told.entries_are (holds_next role image chip went.phases node d (sends_told bearers went.did) h went.over);
   }
 
 -- the same, by what is left of it

@@ -1,5 +1,5 @@
 -- What a log tells of the words that were drawn, and of those that were seen.
-use Rattle.std.specs.Prelude.{◌≡◌, ◌≢◌, ◌⊎◌, ◌↔◌, ℕ, ◌+◌, ◌-◌, ◌*◌, ◌^◌, ◌≤◌, true, false, List, map, All, AllPairs, Option, Some, None, ⊤}
+use Rattle.std.specs.Prelude.{◌≡◌, ◌≢◌, ◌⊎◌, ◌↔◌, ℕ, ◌+◌, ◌-◌, ◌*◌, ◌^◌, ◌<◌, ◌≤◌, true, false, List, map, All, AllPairs, Option, Some, None, ⊤}
 use Rattle.std.specs.List.{Contains}
 use Rattle.mesh_base.specs.Pairs.{word_of}
 use Rattle.mesh_base.specs.declared.pair.Pair.{Pair}
@@ -48,8 +48,9 @@ pub record TellsWords (life : Life) (closed : ClosedView) : Type 0 where
       ≡ once_below x closed.next
   pub firsts : All (λ a. seq_of a.1 ≡ 0) closed.advances
   pub reached : All (λ a. a.1 ≤ closed.next) closed.advances
-  -- At the end at most 256 words that were published are left, which the next life loses.
-  pub near : closed.mark ≤ closed.next + 256
+  -- At the end fewer than 256 words that were published are left, which the next life loses: so no refill was published
+  -- behind which the counter stayed.
+  pub near : closed.mark < closed.next + 256
   -- No refill was stored before there was a job that draws: so a life that had none stored none.
   pub asked : AreAsked life.entries life.refills
 

@@ -11,8 +11,8 @@ use Rattle.store_definitions.specs.Recovered.{IsRecovered}
 use Rattle.locked_node.specs.Asked.{AreAsked}
 use Rattle.mesh_node.specs.Told.{PhaseDid}
 
--- Over these records, behind these entries, and as many refills as jobs that draw may ask for, this is the least number of ticks of which an event
--- isn't quiet, as the machine says what is, or the most that there is.
+-- Over these records, behind these entries and some number of refills, none before an entry with a job that draws, this is the least number of ticks of
+-- which an event isn't quiet, as the machine says what is, or the most that there is.
 pub record IsDueBehind (role : Role) (Quiet : Past → ℕ → Type 0) (over : List StoreRecord) (entries : List Entry) (due : ℕ) : Type 0 where
   pub machine : MachineView
   pub entries_are : machine.entries ≡ entries

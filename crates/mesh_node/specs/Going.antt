@@ -7,7 +7,7 @@ use Rattle.mesh_types.specs.declared.history.Sent.{Sent}
 use Rattle.run_definitions.specs.Order.{is_outside}
 use Rattle.seq_word.specs.Seen.{DrawerView}
 use Rattle.locked_node.specs.Node.{NodeView, event_in}
-use Rattle.life_laws.specs.Hands.{AreHandledAll, IsNextIn}
+use Rattle.life_laws.specs.Hands.{AreHandledAll, IsInHand, IsNextIn}
 use Rattle.life_laws.specs.Pairs.{PairsSo}
 use Rattle.node_limits.specs.declared.TheConstants.{BEARERS}
 use Rattle.node_phase.specs.declared.bearers.Done.{Done}
@@ -35,6 +35,9 @@ pub record IsOver {F : Type 0} (phases : List (List (List Event))) (node : NodeV
   pub pairs : PairsSo node.machine.entries node.machine.moves sends d
   pub next : 0 < node.stops → (event : Event) → event_in node.machine.hand ≡ Some event → is_outside event ≡ true
       → IsNextIn phases node.machine.entries event
+  -- what its bearer left begins with it, so no line of an event before it is left
+  pub hand : 0 < node.stops → (event : Event) → event_in node.machine.hand ≡ Some event → is_outside event ≡ true
+      → IsInHand phases node.machine.entries sends event
 
 -- All entries of the node were taken, and these are they.
 pub record AreTold {F : Type 0} (entries : List Entry) (node : NodeView F) : Type 0 where
@@ -47,6 +50,8 @@ pub record IsBetween {F M Reader Reading : Type 0} (seats : Seats M Reader Readi
   pub draws : seats.drawer.which ≡ seats.numbers.which
   -- all seats that were split off were taken in again
   pub parts : seats.drawer.parts ≡ 1024
+  -- and none of them owes a draw behind a mark that was raised for it
+  pub free : seats.drawer.owes ≡ 0
   pub few : length seats.counts.items ≤ BEARERS
   pub live : node.stops ≡ 0
   pub taken : node.machine.taken ≡ length node.machine.entries

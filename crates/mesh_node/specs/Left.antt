@@ -23,7 +23,7 @@ pub record Closes (d : DrawerView) (closed : ClosedView) (first : ℕ) : Type 0 
   pub all : (x : ℕ) → times x d.drawn + passed_over x closed.advances + once_below x first ≡ once_below x closed.next
   pub firsts : All (λ a. seq_of a.1 ≡ 0) closed.advances
   pub reached : All (λ a. a.1 ≤ closed.next) closed.advances
-  pub near : closed.mark ≤ closed.next + 256
+  pub near : closed.mark < closed.next + 256
 
 -- What a node leaves whose counter was opened at `first`: its flash, how often it stored a refill, what the counter and the mark were at the end, and
 -- whether the flash failed.

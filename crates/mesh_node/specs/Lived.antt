@@ -18,6 +18,7 @@ use Rattle.run_definitions.specs.RunOf.{LifeOf}
 use Rattle.seq_word.specs.Seen.{ClosedView, DrawerView}
 use Rattle.store_definitions.specs.Config.{config_of}
 use Rattle.store_definitions.specs.Recovered.{IsRecovered}
+use Rattle.life_laws.specs.Hands.{HoldsNext}
 use Rattle.life_laws.specs.Pairs.{IsFromMove}
 use Rattle.locked_node.specs.Node.{NodeView}
 use Rattle.locked_node.specs.Stands.{IsLater}
@@ -121,6 +122,8 @@ module _ {S T : Type 0} (Stood : List StoreRecord → MachineView → Type 0) (r
     pub moved : closed ≡ false → HasMoved role over (entries_told did) refills drawn.advances
     -- no line draws a word, or tells the end of an IV Index, below where the counter had been moved to behind its entry (`moves` of `paid`)
     pub from : All (All (IsFromMove (entries_told did) all.machine.moves)) (sends_told bearers did)
+    -- an event from outside that its machine has in hand comes behind all lines of its bearer's events before
+    pub hand : HoldsNext phases (entries_told did) (sends_told bearers did) all.machine
 
 module _ {S T : Type 0} (role : Role) (IsDue : List Entry → ℕ → Type 0) (source : SourceSteps S) (sink : SinkSteps T) (from to : S) (began now : T) (bearers : ℕ) where
   -- A life that memory ran out in. The phases that were through were told, each once it was, and they are those of a life that opened over

@@ -1,7 +1,7 @@
 -- A life between a flash and the flash.
 use Rattle.std.specs.Prelude.{◌≡◌, ℕ, ◌+◌, ◌^◌, ◌<◌, ◌≤◌, ◌≢◌, length, true, false, IsTrue, List, Option, None, IfSome}
-use Rattle.flash_model.specs.Arming.{IsWithin}
-use Rattle.flash_model.specs.Chip.{Chip, Remembers, count_of}
+use Rattle.flash_model.specs.Arming.{IsTornLast, IsWithin}
+use Rattle.flash_model.specs.Chip.{CallCount, Chip, Remembers, count_of}
 use Rattle.machine_contract.specs.Moved.{HasMoved}
 use Rattle.machine_contract.specs.Opening.{EachRecovered, FlashFound, IsNodeFlash}
 use Rattle.machine_contract.specs.Standing.{IsLifeSoFar}
@@ -12,7 +12,7 @@ use Rattle.mesh_types.specs.declared.report.Opened.TheVariants as W
 use Rattle.report_definitions.specs.Record.{Life}
 use Rattle.record_types.specs.declared.records.StoreRecord.{StoreRecord}
 use Rattle.event_definitions.specs.Role.{Role}
-use Rattle.run_definitions.specs.Order.{Step, is_cut}
+use Rattle.run_definitions.specs.Order.{Step, is_cut, phases_of}
 use Rattle.run_definitions.specs.RunOf.{LifeOf, is_on}
 use Rattle.slot_definitions.specs.Slots.{HasFormat}
 use Rattle.store_definitions.specs.Config.{config_of}
@@ -24,6 +24,7 @@ use Rattle.life_laws.specs.declared.plan.LifePlan.{LifePlan}
 use Rattle.machine_contract.specs.View.{MachineView}
 use Rattle.mesh_node.specs.Drawn.{TellsDrawn}
 use Rattle.mesh_node.specs.Given.{IsTold, WasGiven}
+use Rattle.life_laws.specs.Hands.{HoldsNext}
 use Rattle.life_laws.specs.Pairs.{IsFromMove}
 use Rattle.life_laws.specs.Plan.{HasOneArm, IsStep, life_of}
 use Rattle.mesh_node.specs.Steps.{IsGiven, IsOfPlan}
@@ -48,9 +49,13 @@ pub record IsPrintable (life : Life) : Type 0 where
   pub bearers : length life.sends ≤ BEARERS
   pub lines : All (All IsShort) life.sends
 
--- what a life finds of a flash that reads this, once power was given: no call was begun since
-abbrev pub found_at : List ℕ → FlashFound
-found_at image = record { now = image; count = record { calls = 0; erases = 0; octets = 0 }; reads = 0 }
+-- no program or erase call
+abbrev pub no_calls : CallCount
+no_calls = record { calls = 0; erases = 0; octets = 0 }
+
+-- what a life finds of a flash that has failed so often and reads this, once power was given: no call was begun since
+abbrev pub found_at : ℕ → List ℕ → FlashFound
+found_at faults image = record { now = image; count = no_calls; reads = 0; faults = faults }
 
 -- The life opened over what one image of the flash recovers. Whatever an image recovers now, it is a life of its plan that leaves this.
 pub record Lives {M F : Type 0} (view : M → MachineView) (stands : FlashFound → Chip → List StoreRecord → M → Type 0) (chip : F → Chip)
@@ -82,28 +87,33 @@ pub record Lives {M F : Type 0} (view : M → MachineView) (stands : FlashFound 
   -- cut so, it made at most the program and erase calls of that, and none where the format is another
   pub opening_calls : log.opened ≡ W.CutAtStart
       → ((chip new).changes ≤ COMPACTION_CALLS) × ((chip new).erases ≤ BANK_SECTORS) × ((chip new).octets ≤ COMPACTION_OCTETS)
-      × (¬ HasFormat 1 image → count_of (chip new) ≡ (found_at image).count)
+      × (¬ HasFormat 1 image → count_of (chip new) ≡ no_calls)
   -- and where there was a Node Reset it made none, told or not
-  pub reset : log.opened ≡ W.WasReset → count_of (chip new) ≡ (found_at image).count
-  pub reset_calls : (config_of over).reset ≡ true → log.opened ≡ W.CutAtStart → count_of (chip new) ≡ (found_at image).count
+  pub reset : log.opened ≡ W.WasReset → count_of (chip new) ≡ no_calls
+  pub reset_calls : (config_of over).reset ≡ true → log.opened ≡ W.CutAtStart → count_of (chip new) ≡ no_calls
   -- where it wasn't cut, the counter was moved with each record that raised the transmit IV Index, and at no other time
   pub moved : is_cut log.end ≡ false
       → IfSome log.drawn (λ words. HasMoved role over log.history.entries.items log.history.refills words.advances)
   -- over a flash that fails by an order alone, one that the plan has was given, but where there was a Node Reset
   pub armed : IsTrue old.steady → log.opened ≢ W.WasReset → IsGiven plan (chip new).setting.arm
   -- and it was given at its place in the plan
-  pub given : IfSome (chip new).setting.arm (WasGiven view (stands (found_at image)) chip over plan)
+  pub given : IfSome (chip new).setting.arm (WasGiven view (stands (found_at old.faults image)) chip over plan)
   -- and carried out: of a life that wasn't cut at most the calls that come before the torn one were begun since
-  pub carried : IsTrue old.steady → is_cut log.end ≡ false → IsWithin (chip new).setting.arm (chip new).changes
-  -- what it opens with takes at most the read calls of a mount, and nothing is read behind it
+  pub carried : IsTrue old.steady → is_cut log.end ≡ false → IsWithin (chip new).setting.arm 0 (chip new).changes
+  -- and of one that was cut the torn call is the last that was begun
+  pub torn : IsTrue old.steady → is_cut log.end ≡ true → IsTornLast (chip new).setting.arm (chip new).changes
+  -- at most the read calls of a mount were begun in the whole life
   pub reads : (chip new).reads ≤ MOUNT_READS
   -- what is told of the life is all that its machine handled
-  pub told : is_on log.opened ≡ true → IsTold view (stands (found_at image)) chip over (life_of log) new
+  pub told : is_on log.opened ≡ true → IsTold view (stands (found_at old.faults image)) chip over (life_of log) new
   -- and the flash had at most the program and erase calls that the records cost which were stored or in hand, and a migration
   pub paid : (on : is_on log.opened ≡ true)
-      → IsLifeSoFar role IsNodeImage (found_at image) (chip new) over (view (told on).machine)
+      → IsLifeSoFar role IsNodeImage (found_at old.faults image) (chip new) over (view (told on).machine)
   -- no line draws a word, or tells the end of an IV Index, below where the counter had been moved to behind its entry
   pub from : (on : is_on log.opened ≡ true)
       → All (All (IsFromMove (life_of log).entries (view (told on).machine).moves)) (life_of log).sends
+  -- an event from outside that its machine has in hand comes behind all lines of its bearer's events before
+  pub hand : (on : is_on log.opened ≡ true)
+      → HoldsNext (phases_of plan) (life_of log).entries (life_of log).sends (view (told on).machine)
   -- a life that wasn't run read nothing
   pub early : is_on log.opened ≡ false → log.early ≡ record { again = 0; before = 0 }

@@ -6,7 +6,7 @@ use Rattle.machine_contract.specs.Opening.{EachRecovered, FlashFound, IsNodeFlas
 use Rattle.machine_contract.specs.Standing.{IsLifeSoFar}
 use Rattle.record_types.specs.declared.records.StoreRecord.{StoreRecord}
 use Rattle.event_definitions.specs.Role.{Role}
-use Rattle.run_definitions.specs.Order.{Step, is_cut}
+use Rattle.run_definitions.specs.Order.{Step, is_cut, phases_of}
 use Rattle.run_definitions.specs.RunOf.{LifeOf, is_on}
 use Rattle.store_definitions.specs.Recovered.{IsRecovered}
 use Rattle.locked_node.specs.Stands.{IsLater}
@@ -15,6 +15,7 @@ use Rattle.mesh_node.specs.Lives.{IsPrintable, cut_calls}
 use Rattle.machine_contract.specs.View.{MachineView}
 use Rattle.mesh_node.specs.Drawn.{TellsDrawn}
 use Rattle.mesh_node.specs.Given.{IsTold, WasGiven}
+use Rattle.life_laws.specs.Hands.{HoldsNext}
 use Rattle.life_laws.specs.Pairs.{IsFromMove}
 use Rattle.life_laws.specs.Plan.{life_of}
 use Rattle.mesh_node.specs.Steps.{HasGiven, IsOfPlan}
@@ -40,4 +41,5 @@ pub record Ran {M F : Type 0} (view : M → MachineView) (stands : FlashFound �
   pub told : IsTold view (stands (found_of start)) chip over (life_of log) new
   pub paid : IsLifeSoFar role IsNodeImage (found_of start) (chip new) over (view told.machine)
   pub from : All (All (IsFromMove (life_of log).entries (view told.machine).moves)) (life_of log).sends
+  pub hand : HoldsNext (phases_of plan) (life_of log).entries (life_of log).sends (view told.machine)
   pub on : is_on log.opened ≡ true

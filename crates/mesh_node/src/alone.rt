@@ -47,12 +47,14 @@ pub fn one_phase_alone<M: Machine, F: Flash + Send + Drop>(
     ensures numbers { seats.new.numbers ≡ seats.old.numbers }
     ensures which { seats.new.drawer.which ≡ seats.old.drawer.which }
     ensures parts { OnOk result (seats.new.drawer.parts ≡ 1024) }
+    ensures free { OnOk result (seats.new.drawer.owes ≡ 0) }
     ensures many { OnOk result (length seats.new.counts.items ≡ length seats.old.counts.items) }
     ensures bearers { IfOk result (λ r. length r.log.sends.items ≡ length seats.old.counts.items) }
     ensures frame { IfOk result (λ r. IsSameNode node r.node) }
     ensures arm { IfOk result (λ r. (F.chip r.node.flash).setting.arm ≡ (F.chip node.flash).setting.arm) }
     ensures saved { IfOk result (λ r. (F.chip r.node.flash).setting.saved ≡ (F.chip node.flash).setting.saved) }
     ensures called { IfOk result (λ r. (F.chip r.node.flash).setting.called ≡ (F.chip node.flash).setting.called) }
+    ensures programmed { IfOk result (λ r. (F.chip r.node.flash).setting.programmed ≡ (F.chip node.flash).setting.programmed) }
     ensures moment { IfOk result (λ r. (F.chip r.node.flash).setting.moment ≡ (F.chip node.flash).setting.moment) }
     ensures closed { IfOk result (λ r. r.closed ≡ r.node.machine.closed) }
     ensures stopped { IfOk result (λ r. r.closed ≡ true → 0 < r.node.stops) }
@@ -111,6 +113,7 @@ fn go_on_alone<M: Machine, F: Flash + Send + Drop, S: PhaseSource, T: PhaseSink>
     ensures numbers { IfOk result (λ r. r.seats.numbers ≡ life.seats.numbers) }
     ensures which { IfOk result (λ r. r.seats.drawer.which ≡ life.seats.drawer.which) }
     ensures parts { IfOk result (λ r. r.seats.drawer.parts ≡ 1024) }
+    ensures free { IfOk result (λ r. r.seats.drawer.owes ≡ 0) }
     ensures frame { IfOk result (λ r. IsSameNode life.node r.node) }
     ensures short { OnErr result
         (FellShort M.role (IsDueSince M.role M.quiet (F.chip life.node.start)) S.steps T.steps source.old source.new sink.old sink.new life.bearers

@@ -112,6 +112,7 @@ pub fn end_life<M: Machine, F: Flash + Send + Drop>(gone: Gone<M, F>) -> LifeLef
     requires drawer { gone.seats.drawer.which ≡ gone.seats.numbers.which }
     requires machine { gone.node.machine.which ≡ gone.seats.numbers.which }
     requires parts { gone.seats.drawer.parts ≡ 1024 }
+    requires free { gone.seats.drawer.owes ≡ 0 }
     ensures last { result.last ≡ gone.last }
     ensures left { HasLeft M.view M.stands M.role M.image F.chip gone.node gone.seats.numbers.opened gone.seats.drawer result.flash
         result.refills result.drawn result.closed }

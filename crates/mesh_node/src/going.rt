@@ -52,6 +52,7 @@ pub fn one_phase<M: Machine, F: Flash + Send + Drop, G: Gate, R: Threads + Wait 
     ensures numbers { seats.new.numbers ≡ seats.old.numbers }
     ensures which { seats.new.drawer.which ≡ seats.old.drawer.which }
     ensures parts { OnOk result (seats.new.drawer.parts ≡ 1024) }
+    ensures free { OnOk result (seats.new.drawer.owes ≡ 0) }
     ensures many { OnOk result (length seats.new.counts.items ≡ length seats.old.counts.items) }
     ensures bearers { IfOk result (λ r. length r.log.sends.items ≡ length seats.old.counts.items) }
     ensures frame { IfOk result (λ r. IsSameNode node r.node) }
@@ -125,6 +126,7 @@ fn go_on<
     ensures numbers { IfOk result (λ r. r.seats.numbers ≡ life.seats.numbers) }
     ensures which { IfOk result (λ r. r.seats.drawer.which ≡ life.seats.drawer.which) }
     ensures parts { IfOk result (λ r. r.seats.drawer.parts ≡ 1024) }
+    ensures free { IfOk result (λ r. r.seats.drawer.owes ≡ 0) }
     ensures frame { IfOk result (λ r. IsSameNode life.node r.node) }
     ensures short { OnErr result
         (FellShort M.role (IsDueSince M.role M.quiet (F.chip life.node.start)) S.steps T.steps source.old source.new sink.old sink.new life.bearers

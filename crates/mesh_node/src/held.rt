@@ -3,7 +3,7 @@
 
 ghost use Rattle.std.specs.Prelude.{◌≡◌, ◌+◌, ◌<◌, ◌≤◌, ◌-◌, ◌^◌, List, [], ◌∷◌, ◌++◌, length, map, All, true, false, None, Some, IfErr, IfOk, IfSome, OnErr};
 ghost use Rattle.file_flash.specs.Handed.{IsHandedOut};
-ghost use Rattle.file_flash.specs.Noted.{AreFronts, AreOnChip, IsInside, put_of, written};
+ghost use Rattle.file_flash.specs.Noted.{AreFronts, AreOnChip, IsInside, octets_given, put_of, written};
 ghost use Rattle.flash_model.specs.Chip.{IsFresh, Keeps};
 ghost use Rattle.mesh_types.specs.declared.events.Event.{Event};
 ghost use Rattle.machine_contract.specs.declared.opening.StartFault.TheVariants as faults;
@@ -52,6 +52,7 @@ impl<M: Machine, F: Flash + Send + Drop> Model for HeldLife<M, F> {
 
     ghost invariant = { λ h. (h.going.node.machine.which ≡ h.going.seats.numbers.which)
         × (h.going.seats.drawer.which ≡ h.going.seats.numbers.which) × (h.going.seats.drawer.parts ≡ 1024)
+        × (h.going.seats.drawer.owes ≡ 0)
         × (h.going.node.machine.elements ≡ h.going.elements) × (length h.going.seats.counts.items ≡ 1)
         × (h.going.node.machine.closed ≡ false → IsBetween h.going.seats h.going.node) };
 }
@@ -133,6 +134,9 @@ impl<M: Machine, F: Flash + Send + Drop> HeldLife<M, F> {
         ensures start { IfOk result (λ r. r.node.start ≡ flash) }
         ensures saved { IfOk result (λ r. (F.chip r.node.flash).setting.saved ≡ (F.chip flash).setting.saved) }
         ensures called { IfOk result (λ r. (F.chip r.node.flash).setting.called ≡ (F.chip flash).setting.called) }
+        ensures moment { IfOk result (λ r. (F.chip r.node.flash).setting.moment ≡ (F.chip flash).setting.moment) }
+        ensures programmed { IfOk result
+            (λ r. (F.chip r.node.flash).setting.programmed ≡ (F.chip flash).setting.programmed) }
         ensures usable { IfOk result (λ r. r.node.machine.closed ≡ false) }
         ensures begins { IfOk result (λ r. r.node.machine.entries ≡ []) }
         ensures held { IfOk result (λ r. HasLived M.role M.image F.chip r [] []) }
@@ -185,6 +189,8 @@ impl<M: Machine, F: Flash + Send + Drop> HeldLife<M, F> {
             (λ r. (F.chip r.life.node.flash).setting.saved ≡ (F.chip self.node.flash).setting.saved) }
         ensures called { IfOk result
             (λ r. (F.chip r.life.node.flash).setting.called ≡ (F.chip self.node.flash).setting.called) }
+        ensures programmed { IfOk result
+            (λ r. (F.chip r.life.node.flash).setting.programmed ≡ (F.chip self.node.flash).setting.programmed) }
         ensures moment { IfOk result
             (λ r. (F.chip r.life.node.flash).setting.moment ≡ (F.chip self.node.flash).setting.moment) }
         ensures place { IfOk result (λ r. r.log.first ≡ length self.node.machine.entries) }
@@ -273,7 +279,8 @@ impl<M: Machine, F: Flash + Send + Drop> HeldLife<M, F> {
 
 impl<M: Machine> HeldLife<M, NotedFlash> {
     /// The writes of the flash since this was called last, or since it was made, as `Node::take_writes` says it: those that the flash noted, in
-    /// that order (`noted`), at most so many as program and erase calls were counted since then, as long as that count isn't ffffffff (`few`). Each
+    /// that order (`noted`), at most so many as program and erase calls were counted since then, as long as that count isn't ffffffff (`few`). Those
+    /// that are no erase have at most so many octets as program calls were given since then, with the same proviso (`lean`). Each
     /// gives its octets on a chip too (`on_chip`), and each front of them, with its last write torn or whole, is content that a power cut might
     /// have left since then (`fronts`). None waits any more then (`none`), and the life goes on as it was (`held`).
     ///
@@ -288,6 +295,9 @@ impl<M: Machine> HeldLife<M, NotedFlash> {
         ensures few { (⟦<NotedFlash as Flash>⟧.chip self.old.node.flash).changes < 4294967295
             → (⟦<NotedFlash as Flash>⟧.chip self.old.node.flash).setting.called + length result.items
             ≤ (⟦<NotedFlash as Flash>⟧.chip self.old.node.flash).changes }
+        ensures lean { (⟦<NotedFlash as Flash>⟧.chip self.old.node.flash).octets < 4294967295
+            → (⟦<NotedFlash as Flash>⟧.chip self.old.node.flash).setting.programmed + octets_given (map put_of result.items)
+            ≤ (⟦<NotedFlash as Flash>⟧.chip self.old.node.flash).octets }
         ensures noted { Some (map put_of result.items) ≡ ⟦<NotedPlace as Backing>⟧.waiting self.old.node.flash.backing }
         ensures none { ⟦<NotedPlace as Backing>⟧.waiting self.new.node.flash.backing ≡ Some [] }
         ensures flash { IsHandedOut (⟦<NotedFlash as Flash>⟧.chip self.old.node.flash)

@@ -58,6 +58,7 @@ fn do_phase<M: Machine, F: Bench, G: Gate, R: Threads + Wait + Sync>(
     ensures numbers { seats.new.numbers ≡ seats.old.numbers }
     ensures which { seats.new.drawer.which ≡ seats.old.drawer.which }
     ensures parts { OnOk result (seats.new.drawer.parts ≡ 1024) }
+    ensures free { OnOk result (seats.new.drawer.owes ≡ 0) }
     ensures frame { IfOk result (λ r. IsSameNode node r.0) }
     ensures arm { IfOk result (λ r. (F.chip r.0.flash).setting.arm ≡ (F.chip node.flash).setting.arm) }
     ensures saved { IfOk result (λ r. (F.chip r.0.flash).setting.saved ≡ (F.chip node.flash).setting.saved) }
@@ -101,6 +102,7 @@ pub fn do_step<M: Machine, F: Bench, G: Gate, R: Threads + Wait + Sync>(
     ensures numbers { seats.new.numbers ≡ seats.old.numbers }
     ensures which { seats.new.drawer.which ≡ seats.old.drawer.which }
     ensures parts { OnOk result (seats.new.drawer.parts ≡ 1024) }
+    ensures free { OnOk result (seats.new.drawer.owes ≡ 0) }
     ensures frame { IfOk result (λ r. IsSameNode node r.0) }
     ensures arm { IfOk result (λ r. IsArmedBy step.now (F.chip node.flash) (F.chip r.0.flash)) }
     ensures saved { IfOk result (λ r. (F.chip r.0.flash).setting.saved ≡ (F.chip node.flash).setting.saved) }
@@ -151,6 +153,7 @@ pub fn do_steps<M: Machine, F: Bench, G: Gate, R: Threads + Wait + Sync>(
     ensures numbers { seats.new.numbers ≡ seats.old.numbers }
     ensures which { seats.new.drawer.which ≡ seats.old.drawer.which }
     ensures parts { OnOk result (seats.new.drawer.parts ≡ 1024) }
+    ensures free { OnOk result (seats.new.drawer.owes ≡ 0) }
     ensures frame { IfOk result (λ r. IsSameNode node r.0) }
     ensures arm { IfOk result
         (λ r. IsSameOrOf (steps_of steps.now) (F.chip node.flash).setting.arm (F.chip r.0.flash).setting.arm) }

@@ -18,6 +18,7 @@ use Rattle.report_definitions.specs.Record.{Shown}
 use Rattle.run_definitions.specs.Lines.{Shows, after_line, drawn_of, is_drawing, shows_spent}
 use Rattle.run_definitions.specs.Order.{Placed, Task, follow, Walks, job_tasks, stops, write, write_tasks, writes}
 use Rattle.run_definitions.specs.RunOf.{draws, word_told, words_told}
+use Rattle.seq_word.specs.Dry.{DryView}
 use Rattle.seq_word.specs.Rule.{IsPast, times}
 use Rattle.seq_word.specs.Seen.{AfterLost, DrawerView, HasCause, LostTries, SameDrawn}
 use Rattle.seq_word.specs.Seen as seen
@@ -27,7 +28,7 @@ use Rattle.seq_word.specs.declared.miss.Miss.TheVariants as missed
 use Rattle.turn_lock.specs.Entries.{IsPrefix, added}
 use Rattle.locked_node.specs.declared.marks.Mark.{Mark}
 use Rattle.locked_node.specs.declared.marks.Mark.TheVariants as M
-use Rattle.node_bearer.specs.Did.{AreMarksAt, Did, DrewPair, IsFor, SawEnd}
+use Rattle.node_bearer.specs.Did.{AreMarksAt, Did, DrewPair, IsFor, SawDry, SawEnd}
 use Rattle.node_bearer.specs.Marked.{AreShown, HasJob, IsBehind, IsFrom, IsSpentSeen, end_told, ends_told, move_of, shown_in, word_seen, words_seen}
 use Rattle.node_bearer.proofs.Lists.{added_one, found_longer, from_more, marks_at_more, no_lower, pairs_more, range_more, times_append}
 use Rattle.node_bearer.proofs.Walking.{acts, walk_more}
@@ -371,6 +372,10 @@ saw_end iv d e same (tries, u, lost, (mark, looks)) above =
         words_more x d.looks front.rest,
       );
     }
+
+-- a draw that found the counter at the mark
+pub saw_dry : (dry : DryView) (d e : DrawerView) → AfterLost (HasCause (missed.Dry dry)) d e → SawDry e
+saw_dry dry d e (tries, u, lost, (looks, reached, seq, which)) = record { before = u.looks; mark = dry.mark; counter = dry.next; looks = looks; reached = reached }
 
 -- a line with a pair, or of a job that draws none, doesn't say that no number was left
 pub unspent_drawn : (looks : List Look) (job : Job) (o : Outcome) (p : Pair) → drawn_of job o ≡ Some p → IsSpentSeen looks o

@@ -1,5 +1,5 @@
 -- A turn at the lock: what is added is the bearer's own, and it has seen all that stands there.
-use Rattle.std.proofs.Common.{◌≡◌, ◌∙◌, ℕ, ◌+◌, true, false, List, [], ◌∷◌, ◌++◌, length, Option, Some, None, refl, sym, ap, subst, append_assoc, append-nil, arith}
+use Rattle.std.proofs.Common.{◌≡◌, ◌∙◌, ℕ, ◌+◌, true, false, List, [], ◌∷◌, ◌++◌, length, Option, Some, None, refl, sym, ap, subst, append_assoc, append-nil}
 use Rattle.std.specs.Prelude.{Result, Ok, Err, IfErr, IfOk, IsErrAnd, OnOk, slice_get}
 use Rattle.machine_contract.specs.declared.answers.Stop.{Stop}
 use Rattle.machine_contract.specs.declared.answers.Stop.TheVariants as S
@@ -16,7 +16,7 @@ use Rattle.locked_node.specs.declared.marks.Mark.TheVariants as M
 use Rattle.locked_node.specs.Asked.{WasAsked}
 use Rattle.locked_node.proofs.Told.{told_more}
 use Rattle.locked_node.specs.Node.{HasBeenTold, IsStopped, IsStoppedBare, NodeView, OnStop, node_marks}
-use Rattle.node_bearer.specs.Did.{BearerOf, Broke, Did, DidBy, GoesOn, IsFor, IsNext, LeftOff}
+use Rattle.node_bearer.specs.Did.{BearerOf, Broke, Did, DidBy, GoesOn, IsDryFor, IsFor, IsNext, LeftOff, freed}
 use Rattle.node_bearer.specs.Marked.{HasEntry, HasJob}
 use Rattle.node_bearer.specs.Turns.{after_turn}
 use Rattle.node_bearer.proofs.Lists.{added_more, added_none, added_one, get_last, get_longer}
@@ -44,6 +44,16 @@ on_stop S.Closed f h = f h
 on_stop S.Memory f h = tt
 on_stop S.Flash f h = f h
 
+pub on_both : (e : Stop) {P Q R : Type 0} → (P → Q → R) → OnStop e P → OnStop e Q → OnStop e R
+on_both S.Closed f g h = f g h
+on_both S.Memory f g h = tt
+on_both S.Flash f g h = f g h
+
+pub on_any : (e : Stop) {P : Type 0} → P → OnStop e P
+on_any S.Closed h = h
+on_any S.Memory h = tt
+on_any S.Flash h = h
+
 pub front_of_itself : {E : Type 0} (ms : List E) → IsPrefix ms ms
 front_of_itself ms = record { rest = []; is = sym (append-nil ms) }
 
@@ -58,15 +68,20 @@ goes_on a b c p q = record {
   known = q.known ∙ p.known;
   told = front_more a.drawer.informed b.drawer.informed c.drawer.informed p.told q.told;
   parts = q.parts ∙ p.parts;
+  free = λ none. q.free (p.free none);
   stop = q.stop ∙ p.stop;
 }
 
 pub on_still : {F : Type 0} (b : BearerOf F) → GoesOn b b
-on_still b = record { rest = []; more = sym (append-nil b.pass.seen); noted = refl; known = refl; told = front_of_itself b.drawer.informed; parts = refl; stop = refl }
+on_still b = record { rest = []; more = sym (append-nil b.pass.seen); noted = refl; known = refl; told = front_of_itself b.drawer.informed; parts = refl; free = λ none. none; stop = refl }
+
+-- it is as it is once it has drawn what it owes
+pub on_freed : {F : Type 0} (b : BearerOf F) → GoesOn b (freed b)
+on_freed b = record { rest = []; more = sym (append-nil b.pass.seen); noted = refl; known = refl; told = front_of_itself b.drawer.informed; parts = refl; free = λ _. refl; stop = refl }
 
 -- its lines alone are others
 pub on_written : {F : Type 0} (b c : BearerOf F) → c ≡ record b { lines = c.lines } → GoesOn b c
-on_written b c is = subst (GoesOn b) (sym is) (record { rest = []; more = sym (append-nil b.pass.seen); noted = refl; known = refl; told = front_of_itself b.drawer.informed; parts = refl; stop = refl })
+on_written b c is = subst (GoesOn b) (sym is) (record { rest = []; more = sym (append-nil b.pass.seen); noted = refl; known = refl; told = front_of_itself b.drawer.informed; parts = refl; free = λ none. none; stop = refl })
 
 pub entry_longer : (marks rest : List Mark) (at : ℕ) (event : Event) (jobs : List Job) (front informed : List ℕ) → IsPrefix front informed → HasEntry marks at event jobs front
     → HasEntry (marks ++ rest) at event jobs informed
@@ -120,6 +135,12 @@ stuck_for (handle e) rest event is = refl
 stuck_for (follow e) rest event is = refl
 stuck_for (write i j e job) rest event is = absurd is
 
+-- and no draw
+dry_for : (task : Task) (rest : List Task) (event : Event) (d : DrawerView) → IsFor event task → IsDryFor (task ∷ rest) d
+dry_for (handle e) rest event d is = tt
+dry_for (follow e) rest event d is = tt
+dry_for (write i j e job) rest event d is = absurd is
+
 -- with this number, and told these words
 abbrev pub numbered : {F : Type 0} → BearerOf F → ℕ → List ℕ → BearerOf F
 numbered b n informed = record b { number = n; drawer = record b.drawer { informed = informed } }
@@ -136,6 +157,12 @@ module _ {F : Type 0} (k first : ℕ) (tasks : List Task) where
   -- its seat was told where the counter was moved to
   pub did_told : (left : List Task) (b : BearerOf F) (d : DrawerView) → d ≡ record b.drawer { informed = d.informed } → DidBy k first tasks left b → DidBy k first tasks left (record b { drawer = d })
   did_told left b d is h =
+      did_looked k first tasks left b.pass.own b.pass.seen b.lines.items b.number b.drawer d (ap (λ x. x.drawn) is) (ap (λ x. x.noted) is) (ap (λ x. x.known) is)
+      (record { rest = []; is = ap (λ x. x.looks) is ∙ sym (append-nil b.drawer.looks) }) h
+
+  -- it owes a draw
+  pub did_owing : (left : List Task) (b : BearerOf F) (d : DrawerView) → d ≡ record b.drawer { owes = d.owes } → DidBy k first tasks left b → DidBy k first tasks left (record b { drawer = d })
+  did_owing left b d is h =
       did_looked k first tasks left b.pass.own b.pass.seen b.lines.items b.number b.drawer d (ap (λ x. x.drawn) is) (ap (λ x. x.noted) is) (ap (λ x. x.known) is)
       (record { rest = []; is = ap (λ x. x.looks) is ∙ sym (append-nil b.drawer.looks) }) h
 
@@ -158,7 +185,7 @@ module _ {F : Type 0} (k first : ℕ) (tasks : List Task) where
     }
 
     pub broke_left : Broke k first tasks (after_turn b node) → Broke k first tasks (record b { pass = p })
-    broke_left h = record { left = h.left; is = off_left h.left h.is; stuck = h.stuck }
+    broke_left h = record { left = h.left; is = off_left h.left h.is; stuck = h.stuck; dry = h.dry }
 
   module _ (b : BearerOf F) (old new : NodeView F) (seen : IsPrefix b.pass.seen (node_marks old)) where
     -- an event more was handled
@@ -204,6 +231,7 @@ module _ {F : Type 0} (k first : ℕ) (tasks : List Task) where
       left = task ∷ rest;
       is = marked (task ∷ rest) s.hand h s.marks (λ other e. subst (λ x. IsFor x task) (sym (s.is other e)) is);
       stuck = stuck_for task rest event is;
+      dry = dry_for task rest event b.drawer is;
     }
 
     pub stopped_bare : (left : List Task) → DidBy k first tasks left (after_turn b old) → IsStoppedBare (node_marks old) (node_marks new) → LeftOff k first tasks left (after_turn b new)

@@ -6,10 +6,11 @@ use Rattle.mesh_base.specs.declared.pair.Pair.{Pair}
 use Rattle.mesh_types.specs.declared.events.Event.{Event}
 use Rattle.mesh_types.specs.declared.history.Sent.{Sent}
 use Rattle.machine_contract.specs.Ranges.{IsEvent}
-use Rattle.run_definitions.specs.Order.{IsStuck, Placed, Task, Walks, handle, follow, is_outside}
+use Rattle.run_definitions.specs.Order.{IsStuck, Placed, Task, Walks, handle, follow, write, is_outside}
 use Rattle.seq_word.specs.Rule.{times}
 use Rattle.seq_word.specs.Seen.{DrawerView, NumbersView}
 use Rattle.seq_word.specs.Seen as seen
+use Rattle.seq_word.specs.declared.looks.Look.{Look}
 use Rattle.seq_word.specs.declared.looks.Look.TheVariants as saw
 use Rattle.turn_lock.specs.Entries.{IsPrefix}
 use Rattle.turn_lock.specs.Views.{IsPassOf, TurnView}
@@ -69,11 +70,27 @@ pub record LeftOff {F : Type 0} (k first : ℕ) (tasks left : List Task) (b : Be
   pub did : Did k first tasks left before b.pass.seen b.lines.items b.number b.drawer
   pub next : (event : Event) → hand ≡ Some event → IsNext event left
 
--- a bearer that stopped so, and came as far as it does without the machine
+-- The last that a seat did was a look at the mark and one at the counter, which found the counter at the mark, or above it: so it has drawn
+-- nothing since.
+pub record SawDry (d : DrawerView) : Type 0 where
+  pub before : List Look
+  pub mark : ℕ
+  pub counter : ℕ
+  pub looks : d.looks ≡ before ++ saw.Mark mark ∷ saw.Counter counter ∷ []
+  pub reached : mark ≤ counter
+
+-- so it is of a seat whose bearer has the line of a job to write next
+abbrev pub IsDryFor : List Task → DrawerView → Type 0
+IsDryFor (write i j event job ∷ left) d = SawDry d
+IsDryFor _ d = ⊤
+
+-- A bearer that stopped so, and came as far as it does without the machine; where it left the line of a job, its last draw found the
+-- counter at the mark, or above it.
 pub record Broke {F : Type 0} (k first : ℕ) (tasks : List Task) (b : BearerOf F) : Type 0 where
   pub left : List Task
   pub is : LeftOff k first tasks left b
   pub stuck : IsStuck left
+  pub dry : IsDryFor left b.drawer
 
 -- a pair more was drawn, above all before it
 pub record DrewPair (p : Pair) (d e : DrawerView) : Type 0 where
@@ -125,7 +142,8 @@ pub record IsRider {F : Type 0} (all : ℕ) (n : NumbersView) (turn : TurnView (
   pub outside : b.pass.inside ≡ false
   pub parts : b.pass.parts ≡ all
 
--- between two calls a bearer has seen more, was told more of where the counter was moved to, has not stopped, and has its parts of the words
+-- between two calls a bearer has seen more, was told more of where the counter was moved to, has not stopped, and has its parts of the words; and it
+-- owes no draw behind a mark that was raised for it, where it owed none before
 pub record GoesOn {F : Type 0} (old new : BearerOf F) : Type 0 where
   pub rest : List Mark
   pub more : new.pass.seen ≡ old.pass.seen ++ rest
@@ -133,7 +151,12 @@ pub record GoesOn {F : Type 0} (old new : BearerOf F) : Type 0 where
   pub known : new.drawer.known ≡ old.drawer.known
   pub told : IsPrefix old.drawer.informed new.drawer.informed
   pub parts : new.drawer.parts ≡ old.drawer.parts
+  pub free : old.drawer.owes ≡ 0 → new.drawer.owes ≡ 0
   pub stop : new.stop ≡ old.stop
+
+-- the bearer as it is once it has drawn what it owes
+abbrev pub freed : {F : Type 0} → BearerOf F → BearerOf F
+freed b = record b { drawer = record b.drawer { owes = 0 } }
 
 abbrev pub AreEvents : ℕ → List Event → Type 0
 AreEvents elements events = All (λ e. IsTrue (is_outside e) × IsEvent elements e) events

@@ -63,14 +63,14 @@ abbrev pub move_of : Mark → ℕ
 move_of (M.Handled e move) = move
 move_of (M.Stopped hand) = 0
 
--- the line tells no word below where the counter had been moved to behind its entry
+-- the word that the line draws, or the end of an IV Index that it tells, isn't below where the counter had been moved to behind its entry
 abbrev pub IsFrom : List Mark → Sent → Type 0
 IsFrom marks s = (line : Shown) (mark : Mark) (word : ℕ) → shown_in marks s ≡ Some line → slice_get marks s.entry ≡ Some mark
     → word_told line.job line.outcome ≡ Some word → move_of mark ≤ word
 
 -- The entry and the job of each line are there; the lines draw the words of this seat, each with a SEQ below 2^24. A job's number, from 1 on,
 -- has 8 bits. No line tells a word below that of an earlier one, or below what was known where the seat was split off, or below where the counter
--- had been moved to behind its entry: so it tells none of an earlier transmit IV Index.
+-- had been moved to behind its entry: so it draws none of an earlier transmit IV Index, and ends no earlier one.
 pub record AreShown (marks : List Mark) (lines : List Sent) (d : DrawerView) : Type 0 where
   pub shows : List Shown
   pub found : map (shown_in marks) lines ≡ map Some shows

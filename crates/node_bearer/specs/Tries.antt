@@ -7,10 +7,12 @@ use Rattle.seq_word.specs.declared.miss.Miss.TheVariants as missed
 use Rattle.node_bearer.specs.declared.bearer.Drawn.{Drawn}
 use Rattle.node_bearer.specs.declared.bearer.Drawn.TheVariants as D
 
--- between v and w each of these draws, the latest first, found the counter at or above the mark, and nothing else was done
+-- between v and w each of these draws, the latest first, found the counter at or above the mark, and nothing else was done; but that the seat may
+-- owe the next draw behind each, where the mark was raised for it
 abbrev pub DryDraws : List DryView → DrawerView → DrawerView → Type 0
 DryDraws [] v w = w ≡ v
-DryDraws (t ∷ tries) v w = (u : DrawerView) × DryDraws tries v u × AfterLost (HasCause (missed.Dry t)) u w
+DryDraws (t ∷ tries) v w =
+    (u x : DrawerView) × DryDraws tries v u × AfterLost (HasCause (missed.Dry t)) u x × (w ≡ record x { owes = w.owes })
 
 -- the draw that ended them gave this pair, or found that the IV Index is spent
 abbrev pub EndsIn : Drawn → DrawerView → DrawerView → Type 0

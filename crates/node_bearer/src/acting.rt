@@ -1,15 +1,16 @@
 //! What a bearer does under the lock.
 #![tactic(auto)]
 
-ghost use Rattle.std.specs.Prelude.{◌≡◌, ◌≢◌, ℕ, ◌+◌, ◌<◌, ◌≤◌, ◌^◌, length, List, [], ◌∷◌, ◌++◌, All, map, true, false, IfOk, OnOk, IfErr, slice_index_or};
+ghost use Rattle.std.specs.Prelude.{◌≡◌, ◌≢◌, ℕ, ◌+◌, ◌<◌, ◌≤◌, ◌^◌, length, List, [], ◌∷◌, ◌++◌, All, map, true, false, IfOk, OnOk, IfErr, OnErr, slice_index_or};
 ghost use Rattle.mesh_types.specs.declared.events.Event.{Event as AnEvent};
 ghost use Rattle.machine_contract.specs.Ranges.{IsEvent, IsJob, IsQuiet};
 ghost use Rattle.run_definitions.specs.Order.{Task, handle, is_outside, write_tasks};
+ghost use Rattle.seq_word.specs.Seen.{IsFoundBy};
 ghost use Rattle.seq_word.specs.Word.{seq_of};
 ghost use Rattle.turn_lock.specs.Entries.{IsPrefix};
 ghost use Rattle.locked_node.specs.Asked.{WasAsked};
 ghost use Rattle.locked_node.specs.Node.{OnStop, node_marks, origin_of};
-ghost use Rattle.node_bearer.specs.Did.{AreEvents, Broke, DidBy, GoesOn, IsFor, IsRider, LeftOff};
+ghost use Rattle.node_bearer.specs.Did.{AreEvents, Broke, DidBy, GoesOn, IsFor, IsRider, LeftOff, freed};
 ghost use Rattle.node_bearer.specs.Marked.{HasEntry};
 ghost use Rattle.node_bearer.specs.Turns.{AreRead, after_turn, left_of};
 
@@ -250,19 +251,22 @@ pub fn act_on<M: Machine, F: Flash + Send + Drop, S: Sharing>(
 }
 
 /// Has a refill stored, where the mark that was reached is still the one that was published last, and can be raised. Then another mark is
-/// published, and no longer the one that was reached (`raised`). It is asked for by a bearer that has seen a job that draws (`asked`).
+/// published, and no longer the one that was reached (`raised`). It is asked for by a bearer that has seen a job that draws (`asked`), with what its
+/// last draw found (`found`); and it may owe the next draw then, where nothing failed (`frame`, `failed`).
 pub fn refill<M: Machine, F: Flash + Send + Drop, S: Sharing>(
     place: &Workplace<'_, Node<M, F>, S>,
     b: &mut Bearer<Node<M, F>>,
     dry: Dry,
 ) -> Result<Raised, Stop>
     requires rider { IsRider S.parts place.now.numbers.now place.now.turn.now b.old }
-    requires reached { dry.which ≡ place.now.numbers.now.which }
+    requires found { IsFoundBy dry b.old.drawer }
     requires seq { seq_of dry.mark < 2 ^ 24 }
     requires asked { WasAsked b.old.pass.seen }
     ensures rider { IsRider S.parts place.now.numbers.now place.now.turn.now b.new }
-    ensures on { GoesOn b.old b.new }
-    ensures frame { (b.new.lines ≡ b.old.lines) × (b.new.drawer ≡ b.old.drawer) }
+    ensures on { GoesOn b.old (freed b.new) }
+    ensures frame { (b.new.lines ≡ b.old.lines)
+        × (b.new.drawer ≡ record b.old.drawer { owes = b.new.drawer.owes }) }
+    ensures failed { OnErr result (b.new.drawer ≡ b.old.drawer) }
     ensures raised { IfOk result (λ r. (r.seen ≡ dry.mark) × (r.mark ≢ r.seen)) }
     ensures did { (k first : ℕ) (tasks rest : List Task) → DidBy k first tasks rest b.old
         → OnOk result (DidBy k first tasks rest b.new) }
@@ -270,7 +274,7 @@ pub fn refill<M: Machine, F: Flash + Send + Drop, S: Sharing>(
         → IfErr result (λ e. OnStop e (LeftOff k first tasks rest b.new)) }
 {
     let mut node = place.sharing.enter(place.turn, &mut b.pass);
-    let result = node.refill(place.numbers, dry);
+    let result = node.refill(place.numbers, &mut b.drawer, dry);
     node.known();
     place.turn.leave(&mut b.pass, node);
     result

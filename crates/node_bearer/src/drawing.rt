@@ -4,11 +4,11 @@
 ghost use Rattle.std.specs.Prelude.{◌≡◌, ℕ, ◌<◌, ◌≤◌, ◌^◌, List, [], ◌∷◌, ◌++◌, None, Ok, IfOk, OnOk, IfErr, IfSome, OnErr};
 ghost use Rattle.mesh_base.specs.Pairs.{word_of};
 ghost use Rattle.run_definitions.specs.Order.{Task};
-ghost use Rattle.seq_word.specs.Seen.{AfterLost, Finds, HasCause, IsAbove, IsEndAbove, IsPrefix, SameDrawn, miss_of};
+ghost use Rattle.seq_word.specs.Seen.{AfterLost, Finds, HasCause, IsAbove, IsEndAbove, IsFoundBy, IsPrefix, SameDrawn, miss_of};
 ghost use Rattle.seq_word.specs.Word.{seq_of};
 ghost use Rattle.locked_node.specs.Asked.{WasAsked};
 ghost use Rattle.locked_node.specs.Node.{OnStop};
-ghost use Rattle.node_bearer.specs.Did.{DidBy, DrewBy, GoesOn, IsRider, IsUnspent, LeftOff};
+ghost use Rattle.node_bearer.specs.Did.{DidBy, DrewBy, GoesOn, IsRider, IsUnspent, LeftOff, SawDry, freed};
 ghost use Rattle.node_bearer.specs.Tries.{DrawsUntil, IsRaised};
 
 use crate::acting::refill;
@@ -38,11 +38,13 @@ fn raise<M: Machine, F: Flash + Send + Drop, S: Sharing>(
     dry: Dry,
 ) -> Result<Option<Raised>, Stop>
     requires rider { IsRider S.parts place.now.numbers.now place.now.turn.now b.old }
-    requires reached { dry.which ≡ place.now.numbers.now.which }
+    requires found { IsFoundBy dry b.old.drawer }
     requires asked { WasAsked b.old.pass.seen }
     ensures rider { IsRider S.parts place.now.numbers.now place.now.turn.now b.new }
-    ensures on { GoesOn b.old b.new }
-    ensures frame { (b.new.lines ≡ b.old.lines) × (b.new.drawer ≡ b.old.drawer) }
+    ensures on { GoesOn b.old (freed b.new) }
+    ensures frame { (b.new.lines ≡ b.old.lines)
+        × (b.new.drawer ≡ record b.old.drawer { owes = b.new.drawer.owes }) }
+    ensures failed { OnErr result (b.new.drawer ≡ b.old.drawer) }
     ensures raised { seq_of dry.mark < 2 ^ 24 → IfOk result (IsRaised dry.mark) }
     ensures last { 2 ^ 24 ≤ seq_of dry.mark → (result ≡ Ok None) × (b.new ≡ b.old) }
     ensures did { (k first : ℕ) (tasks rest : List Task) → DidBy k first tasks rest b.old
@@ -72,6 +74,7 @@ fn draw_below(n: &Numbers, d: &mut Drawer) -> Result<Pair, Option<DrawStop>>
     ensures err { OnErr result (SameDrawn d.old d.new) }
     ensures cause { IfErr result (λ e. IfSome e (λ s. AfterLost (HasCause (miss_of s)) d.old d.new)) }
     ensures end { IfErr result (λ e. IfSome e (λ s. IsEndAbove d.old (miss_of s))) }
+    ensures owes { d.new.owes ≡ 0 }
 {
     for _ in 0..MOST_TRIES {
         match n.try_draw(d) {
@@ -103,6 +106,7 @@ pub fn draw<M: Machine, F: Flash + Send + Drop, S: Sharing>(
         → IfOk result (λ r. DrewBy r k first tasks rest b.new) }
     ensures stopped { (k first : ℕ) (tasks rest : List Task) → DidBy k first tasks rest b.old
         → IfErr result (λ e. OnStop e (LeftOff k first tasks rest b.new)) }
+    ensures dry { IfErr result (λ e. OnStop e (SawDry b.new.drawer)) }
 {
     for _ in 0..MOST_TRIES {
         match draw_below(place.numbers, &mut b.drawer) {
@@ -114,5 +118,10 @@ pub fn draw<M: Machine, F: Flash + Send + Drop, S: Sharing>(
             Err(None) => return Err(Stop::Memory),
         }
     }
-    Err(Stop::Memory)
+    // The mark that was raised last is drawn behind too.
+    match draw_below(place.numbers, &mut b.drawer) {
+        Ok(pair) => Ok(Drawn::Pair(pair)),
+        Err(Some(DrawStop::Spent { iv })) => Ok(Drawn::Spent(iv)),
+        Err(_) => Err(Stop::Memory),
+    }
 }

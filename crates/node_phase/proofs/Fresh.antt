@@ -89,6 +89,7 @@ module _ {F : Type 0} (k : ℕ) (events : List Event) (old b : BearerOf F) where
     noted = on.noted;
     known = on.known;
     parts = on.parts;
+    owes = on.free fresh.owes;
     did = λ none. did old.number (map handle events) (begins fresh);
     broke = λ e some. absurd (let bad : None ≡ Some e = sym is ∙ some in cc);
   }
@@ -97,13 +98,14 @@ module _ {F : Type 0} (k : ℕ) (events : List Event) (old b : BearerOf F) where
     noted = on.noted;
     known = on.known;
     parts = on.parts;
+    owes = on.free fresh.owes;
     did = λ none. absurd (let bad : Some e ≡ None = sym is ∙ none in cc);
     broke = λ f some. let same : e ≡ f = (let h : Some e ≡ Some f = sym is ∙ some in cc) in
         subst (λ x. OnStop x (Broke k old.number (map handle events) (record b { stop = stop }))) same
         (again e (broke old.number (map handle events) (begins fresh)));
   } where
     again : (e : Stop) → OnStop e (Broke k old.number (map handle events) b) → OnStop e (Broke k old.number (map handle events) (record b { stop = stop }))
-    again e h = on_stop e (λ x. record { left = x.left; is = record { before = x.is.before; at = x.is.at; hand = x.is.hand; own = x.is.own; did = x.is.did; next = x.is.next }; stuck = x.stuck }) h
+    again e h = on_stop e (λ x. record { left = x.left; is = record { before = x.is.before; at = x.is.at; hand = x.is.hand; own = x.is.own; did = x.is.did; next = x.is.next }; stuck = x.stuck; dry = x.dry }) h
 
 -- what a test keeps of one bearer's own entries, where they are the only ones
 pub kept_one : (keep : ℕ × Mark → Bool) (own ys : List (ℕ × Mark)) → KeptOf keep ([] ∷ own ∷ []) ys → filter keep own ≡ ys

@@ -19,6 +19,7 @@ pub record IsFresh {F : Type 0} (b : BearerOf F) : Type 0 where
   pub lines : b.lines.items ≡ []
   pub drawn : b.drawer.drawn ≡ []
   pub looks : b.drawer.looks ≡ []
+  pub owes : b.drawer.owes ≡ 0
 
 -- bearer k, as it was before the phase and as it is behind it: it did all that it had, or stopped
 pub record Worked {F : Type 0} (k : ℕ) (events : List Event) (old new : BearerOf F) : Type 0 where
@@ -26,6 +27,8 @@ pub record Worked {F : Type 0} (k : ℕ) (events : List Event) (old new : Bearer
   pub noted : new.drawer.noted ≡ old.drawer.noted
   pub known : new.drawer.known ≡ old.drawer.known
   pub parts : new.drawer.parts ≡ old.drawer.parts
+  -- it has drawn behind each mark that was raised for it
+  pub owes : new.drawer.owes ≡ 0
   pub did : new.stop ≡ None → DidBy k old.number (map handle events) [] new
   pub broke : (e : Stop) → new.stop ≡ Some e → OnStop e (Broke k old.number (map handle events) new)
 
@@ -61,6 +64,8 @@ pub record WasPhase {F : Type 0} (old new : NodeView F) (d e : DrawerView) (even
   pub same : e.noted ≡ d.noted ++ flat_map (λ b. b.drawer.noted) bearers
   -- all seats were taken in again, where there was a part for each
   pub parts : length before < d.parts → e.parts ≡ d.parts
+  -- none of them owes a draw
+  pub free : d.owes ≡ 0 → e.owes ≡ 0
   pub front : IsPrefix (node_marks old) (node_marks new)
   pub kept : (keep : ℕ × Mark → Bool) (ys : List (ℕ × Mark)) → KeptOf keep ([] ∷ map own_of bearers) ys
       → filter keep (added (node_marks old) (node_marks new)) ≡ ys

@@ -176,6 +176,8 @@ pub fn join_all<M: Machine, F: Flash + Send + Drop>(
     ensures noted { IfOk result
         (λ v. drawer.new.noted ≡ drawer.old.noted ++ flat_map (λ b. b.drawer.noted) bearers.items) }
     ensures shares { IfOk result (λ v. drawer.new.parts ≡ drawer.old.parts + sum_by parts_by bearers.items) }
+    ensures free { drawer.old.owes ≡ 0 → All (λ b. b.drawer.owes ≡ 0) bearers.items
+        → IfOk result (λ v. drawer.new.owes ≡ 0) }
     ensures kept { (keep : ℕ × Mark → Bool) (ys : _) → KeptOf keep (pass.old.own ∷ map own_of bearers.items) ys
         → IfOk result (λ v. filter keep pass.new.own ≡ ys) }
     ensures seen { IfOk result (λ v. All (λ b. IsPrefix b.pass.seen pass.new.seen) bearers.items) }

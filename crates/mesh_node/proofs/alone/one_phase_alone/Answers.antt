@@ -2,7 +2,7 @@ use Rattle.std.proofs.Common.{◌≡◌, ◌∙◌, [], ◌∷◌, ◌++◌, ap,
 use Rattle.node_phase.specs.Part.{AreThrough, HadMemory}
 use Rattle.node_phase.specs.Worked.{WasPhase}
 use Rattle.life_laws.specs.Stopped.{HasStopped}
-use Rattle.mesh_node.proofs.Phasing.{IsPhase, arm_is, bearers_is, between_is, called_is, closed_is, frame_is, going_is, known_is, many_is, moment_is, one_item, over_is, part_done, parts_is, room_is, saved_is, stopped_is, told_is}
+use Rattle.mesh_node.proofs.Phasing.{IsPhase, arm_is, bearers_is, between_is, called_is, closed_is, frame_is, free_is, going_is, known_is, many_is, moment_is, one_item, over_is, part_done, parts_is, programmed_is, room_is, saved_is, stopped_is, told_is}
 use Rattle.mesh_node.proofs.alone.one_phase_alone.Goals as goal
 
 pub returns : goal.returns
@@ -40,12 +40,14 @@ returns g c =
       numbers = p.numbers;
       which = ap (λ d. d.which) p.drawer ∙ p.which;
       parts = parts_is p;
+      free = free_is p;
       many = many_is p;
       bearers = bearers_is p;
       frame = frame_is p;
       arm = arm_is p;
       saved = saved_is p;
       called = called_is p;
+      programmed = programmed_is p;
       moment = moment_is p;
       closed = closed_is p;
       stopped = stopped_is p;

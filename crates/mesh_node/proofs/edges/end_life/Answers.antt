@@ -35,7 +35,7 @@ returns-clause-left g c =
         all = λ x. ap (λ l. times x gone.seats.drawer.drawn + passed_over x l + once_below x gone.seats.numbers.opened) close.advances ∙ close.all c.requires.parts x;
         firsts = subst (All (λ a. seq_of a.1 ≡ 0)) (sym close.advances) close.firsts;
         reached = subst (All (λ a. a.1 ≤ d.result.next)) (sym close.advances) close.advanced;
-        near = close.near;
+        near = close.paid c.requires.parts c.requires.free;
       };
       moved = λ over read runs. moved_by g.M.Machine.view g.M.Machine.advances g.M.Machine.role stands.0 over c.into_parts-machine.result.0 gone.node.machine d.result.advances
           gone.node.machine.entries gone.node.machine.fills (c.one_list_is_recovered.ensures.one_list start stands.0 over stands.1 read) machine

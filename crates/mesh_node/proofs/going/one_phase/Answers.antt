@@ -3,7 +3,7 @@ use Rattle.std.proofs.lemmas.List.{length-map}
 use Rattle.node_phase.specs.Part.{AreThrough, HadMemory}
 use Rattle.node_phase.specs.Worked.{WasPhase}
 use Rattle.life_laws.specs.Stopped.{HasStopped}
-use Rattle.mesh_node.proofs.Phasing.{IsPhase, arm_is, bearers_is, between_is, closed_is, frame_is, going_is, known_is, many_is, over_is, part_done, parts_is, room_is, saved_is, stopped_is, told_is}
+use Rattle.mesh_node.proofs.Phasing.{IsPhase, arm_is, bearers_is, between_is, closed_is, frame_is, free_is, going_is, known_is, many_is, over_is, part_done, parts_is, room_is, saved_is, stopped_is, told_is}
 use Rattle.mesh_node.proofs.going.one_phase.Goals as goal
 
 pub returns : goal.returns
@@ -39,6 +39,7 @@ returns g c =
       numbers = p.numbers;
       which = ap (λ d. d.which) p.drawer ∙ p.which;
       parts = parts_is p;
+      free = free_is p;
       many = many_is p;
       bearers = bearers_is p;
       frame = frame_is p;

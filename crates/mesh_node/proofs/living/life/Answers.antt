@@ -71,6 +71,7 @@ run_life-requires-clause-armed g c κs lives =
 pub returns-in-Ok : goal.returns-in-Ok
 returns-in-Ok g c =
     let law = g.met.B.Bench g.world.𝓛 g.world.𝓜 g.world.𝓡 ((λ s x. x), (λ x. x), (λ x. x), λ x. x) in
+    let counts = g.met.B.Flash g.world.𝓛 g.world.𝓜 g.world.𝓡 ((λ s x. x), (λ x. x), (λ x. x), λ x. x) in
     let chip = g.B.Flash.chip in
     let role = g.M.Machine.role in
     let image = g.M.Machine.image in
@@ -81,13 +82,14 @@ returns-in-Ok g c =
     let armed = subst (λ xs. IsArmedFirst xs (chip c.power_cycle.new.self) start) c.as_slice.ensures.value c.arm_first-steps.ensures.armed in
     let p = powered image items old (chip c.power_cycle.new.self) start c.requires.node cycle.frame cycle.fresh cycle.image cycle.setting cycle.changes cycle.erases cycle.octets cycle.reads armed in
     record {
-      life = IfOk-weaker c.run_life.result _ _ (λ r h. lives_ran g.M.Machine.view g.M.Machine.stands chip role image items c.requires.plan.arm old start r.1 r.0 p.is p.began p.order p.armed p.count p.cycles p.uncalled p.unread p.read law.carried h)
+      life = IfOk-weaker c.run_life.result _ _ (λ r h. lives_ran g.M.Machine.view g.M.Machine.stands chip role image items c.requires.plan.arm old start r.1 r.0 p.is p.began p.order p.armed p.count p.cycles p.uncalled p.unread p.read law.carried law.explained counts.counted h)
           (subst (λ s. IfOk c.run_life.result (λ r. Ran g.M.Machine.view g.M.Machine.stands chip role image (steps_of items) (chip s) r.0 r.1)) c.in_ok-start.ensures.value c.run_life.ensures.ran);
     }
 
 pub returns-in-Err-Flash : goal.returns-in-Err-Flash
 returns-in-Err-Flash g c =
     let law = g.met.B.Bench g.world.𝓛 g.world.𝓜 g.world.𝓡 ((λ s x. x), (λ x. x), (λ x. x), λ x. x) in
+    let counts = g.met.B.Flash g.world.𝓛 g.world.𝓜 g.world.𝓡 ((λ s x. x), (λ x. x), (λ x. x), λ x. x) in
     let chip = g.B.Flash.chip in
     let cycle = c.power_cycle.ensures in
     let items = c.args.plan.now.steps.items in
@@ -99,12 +101,13 @@ returns-in-Err-Flash g c =
     let log = c.idle_log.ensures in
     record {
       life = lives_cut g.M.Machine.view g.M.Machine.stands chip g.M.Machine.role g.M.Machine.image items c.requires.plan.arm old start c.start.new.flash c.idle_log.result
-          p.is p.began p.order p.armed p.count p.cycles p.uncalled p.unread p.read law.carried c.start.ensures.frame c.start.ensures.writes c.start.ensures.reset (law.explained c.start.new.flash) cause.1 cause.0 log.opened (log.end ∙ ap Ends.Cut c.changes.ensures) log.drawn log.entries log.refills log.sends log.early;
+          p.is p.began p.order p.armed p.count p.cycles p.uncalled p.unread p.read law.carried law.explained counts.counted c.start.ensures.frame c.start.ensures.writes c.start.ensures.reset (law.explained c.start.new.flash) cause.1 cause.0 log.opened (log.end ∙ ap Ends.Cut c.changes.ensures) log.drawn log.entries log.refills log.sends log.early;
     }
 
 pub returns-in-Err-WasReset : goal.returns-in-Err-WasReset
 returns-in-Err-WasReset g c =
     let law = g.met.B.Bench g.world.𝓛 g.world.𝓜 g.world.𝓡 ((λ s x. x), (λ x. x), (λ x. x), λ x. x) in
+    let counts = g.met.B.Flash g.world.𝓛 g.world.𝓜 g.world.𝓡 ((λ s x. x), (λ x. x), (λ x. x), λ x. x) in
     let chip = g.B.Flash.chip in
     let cycle = c.power_cycle.ensures in
     let items = c.args.plan.now.steps.items in
@@ -117,5 +120,5 @@ returns-in-Err-WasReset g c =
     let reset = subst (λ o. (config_of o).reset ≡ true) (c.one_list_is_recovered.ensures.one_list start.now cause.0.over cause.1.over cause.0.read cause.1.read) cause.0.reset in
     record {
       life = lives_reset g.M.Machine.view g.M.Machine.stands chip g.M.Machine.role g.M.Machine.image items c.requires.plan.arm old start c.start.new.flash c.idle_log-in-Err-WasReset.result
-          p.is p.began p.order p.armed p.count p.cycles p.uncalled p.unread p.read law.carried c.start.ensures.frame c.start.ensures.writes.most_reads (c.start.ensures.reset cause.0) cause.2 cause.1 reset log.opened log.end log.drawn log.entries log.refills log.sends log.early;
+          p.is p.began p.order p.armed p.count p.cycles p.uncalled p.unread p.read law.carried law.explained counts.counted c.start.ensures.frame c.start.ensures.writes.most_reads (c.start.ensures.reset cause.0) cause.2 cause.1 reset log.opened log.end log.drawn log.entries log.refills log.sends log.early;
     }

@@ -92,7 +92,7 @@ returns g c =
       all = λ x. ap (λ l. times x words.drawer.drawn + passed_over x l + once_below x words.numbers.opened) close.advances ∙ close.all did.parts x;
       firsts = subst (All (λ a. seq_of a.1 ≡ 0)) (sym close.advances) close.firsts;
       reached = subst (All (λ a. a.1 ≤ c.close-drawn.result.next)) (sym close.advances) close.advanced;
-      near = close.near;
+      near = close.paid did.parts did.free;
     } in
     let is_start = did.frame.start ∙ ap (λ n. n.start) c.in_ok-opened.ensures.value in
     let stands = c.into_parts-machine.ensures.stands in

@@ -105,6 +105,9 @@ returns-then-closed-clause-placed g c = λ over read.
 pub returns-clause-parts : goal.returns-clause-parts
 returns-clause-parts g c = c.loop-step.invariant.between.parts
 
+pub returns-clause-free : goal.returns-clause-free
+returns-clause-free g c = c.loop-step.invariant.between.free
+
 pub returns-clause-given : goal.returns-clause-given
 returns-clause-given g c = λ live.
     let l = c.loop-step in

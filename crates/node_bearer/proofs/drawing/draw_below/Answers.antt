@@ -1,4 +1,4 @@
-use Rattle.std.proofs.Common.{◌∷◌, ◌∙◌}
+use Rattle.std.proofs.Common.{◌∷◌, ◌∙◌, arith}
 use Rattle.seq_word.proofs.Fronts.{prefix_trans}
 use Rattle.node_bearer.proofs.drawing.draw_below.Goals as goal
 
@@ -19,4 +19,9 @@ loop-preserved c =
       };
       looks = prefix_trans before.looks lost.looks;
       lost = ((c.in-Err-Lost.field-0-0, c.in-Err-Lost.field-0-1) ∷ before.lost.0, (c.loop.d, before.lost.1, lost.err, rw c.in-Err-Lost.field-0-is at lost.cause));
+      paid = λ _. lost.owes;
     }
+
+-- it was tried at least once
+pub returns-clause-owes : goal.returns-clause-owes
+returns-clause-owes c = c.loop.invariant.paid (omega (arith, c.loop-test.false))

@@ -2,7 +2,7 @@ use Rattle.std.proofs.Common.{◌≡◌, true, ◌∷◌, subst}
 use Rattle.run_definitions.specs.Lines.{is_drawing}
 use Rattle.run_definitions.specs.Order.{write}
 use Rattle.node_bearer.specs.Did.{DrewBy}
-use Rattle.node_bearer.proofs.Turning.{asked_by, job_on, on_stop, on_written, stops}
+use Rattle.node_bearer.proofs.Turning.{asked_by, job_on, on_both, on_written, stops}
 use Rattle.node_bearer.proofs.jobs.do_job.Goals as goal
 
 pub draw-requires-clause-asked : goal.draw-requires-clause-asked
@@ -23,7 +23,8 @@ pub returns-in_err-pair-clause-stopped : goal.returns-in_err-pair-clause-stopped
 returns-in_err-pair-clause-stopped g c = λ k first tasks rest h.
     let left = write c.args.at c.args.j c.args.event.now c.args.job.now ∷ rest in
     let draws : is_drawing c.args.job.now ≡ true = cc (c.draws.ensures.value, c.if-not-draws.false) in
-    stops _ c.from_residual.result c.in_err-pair.field-0.0 c.from_residual.ensures.1 (on_stop c.in_err-pair.field-0.0 (λ s. record { left = left; is = s; stuck = draws }) (c.in_err-pair.ensures.stopped k first tasks left h))
+    stops _ c.from_residual.result c.in_err-pair.field-0.0 c.from_residual.ensures.1 (on_both c.in_err-pair.field-0.0 (λ s d. record { left = left; is = s; stuck = draws; dry = d })
+    (c.in_err-pair.ensures.stopped k first tasks left h) c.in_err-pair.ensures.dry)
 
 pub returns-in-Pair-clause-did : goal.returns-in-Pair-clause-did
 returns-in-Pair-clause-did g c = λ k first tasks rest h.

@@ -35,6 +35,7 @@ returns-clause-was g c =
       looks = joined.looks ∙ ap (λ x. x.looks ++ b.drawer.looks) seat.frame ∙ ap (λ l. d.looks ++ l) (sym (append-nil b.drawer.looks));
       same = joined.noted ∙ ap (λ x. x.noted ++ b.drawer.noted) seat.frame ∙ ap (λ l. d.noted ++ l) (sym (append-nil b.drawer.noted));
       parts = λ few. let one = part_of-one d.parts few in omega (arith, joined.parts, ap (λ x. x.parts) seat.frame, ap (λ x. x.parts) seat.value, one, few, same, c.work_phase.ensures.worked.parts);
+      free = λ none. omega (arith, joined.owes, ap (λ x. x.owes) seat.frame, none, ap (λ (x : BearerOf g.row.F.Denot). x.drawer.owes) c.into_parts-bearer.ensures.bearer, c.work_phase.ensures.worked.owes);
       front = record { rest = entries_of b.pass.own; is = entered.whole ∙ ap (λ ms. ms ++ entries_of b.pass.own) first };
       kept = λ keep ys h. ap (filter keep) (sym places) ∙ kept_one keep b.pass.own ys h;
       seen = All-cons (λ (x : BearerOf g.row.F.Denot). IsPrefix x.pass.seen new) b [] entered.seen (All-nil (λ (x : BearerOf g.row.F.Denot). IsPrefix x.pass.seen new));

@@ -1,4 +1,4 @@
-use Rattle.std.proofs.Common.{◌∙◌, ◌++◌, ◌∷◌, [], length, map, ap, sym, subst, arith, append_assoc}
+use Rattle.std.proofs.Common.{◌≡◌, ◌∙◌, ◌++◌, ◌∷◌, [], length, map, ap, sym, subst, arith, append_assoc}
 use Rattle.std.specs.Prelude.{All}
 use Rattle.std.specs.List.{Contains, flat_map, sum_by}
 use Rattle.std.proofs.lemmas.List.Sums.{sum_by-cons}
@@ -38,6 +38,10 @@ loop-bearer-preserved g c =
           ∙ ap (λ bs. was.drawer.looks ++ flat_map looks_by bs) (sym items) ∙ inv.looks;
       noted = ap (λ x. x ++ flat_map (λ r. r.drawer.noted) left) drew.noted ∙ append_assoc was.drawer.noted b.drawer.noted (flat_map (λ r. r.drawer.noted) left)
           ∙ ap (λ bs. was.drawer.noted ++ flat_map (λ r. r.drawer.noted) bs) (sym items) ∙ inv.noted;
+      free = λ none all.
+          let before = inv.free none all in
+          let others = subst (All (λ r. r.drawer.owes ≡ 0)) items before.1 in
+          (omega (arith, drew.owes, before.0, All-head (λ r. r.drawer.owes ≡ 0) b left others), All-tail (λ r. r.drawer.owes ≡ 0) b left others);
       shares = omega (arith, drew.parts, sum_by-cons parts_by b left, ap (sum_by parts_by) items, inv.shares);
       kept = λ keep ys h.
           let both = subst (λ bs. KeptOf keep (was.pass.own ∷ map own_of bs) ys) items (inv.kept keep ys h) in

@@ -20,6 +20,7 @@ invariant-loop-bearer g l = record {
   drawn : l.drawer.drawn ++ flat_map drawn_by (into_iter_items l.bearer-iterator) ≡ l.initial.drawer.drawn ++ flat_map drawn_by l.fn.bearers.items;
   looks : l.drawer.looks ++ flat_map looks_by (into_iter_items l.bearer-iterator) ≡ l.initial.drawer.looks ++ flat_map looks_by l.fn.bearers.items;
   noted : l.drawer.noted ++ flat_map (λ b. b.drawer.noted) (into_iter_items l.bearer-iterator) ≡ l.initial.drawer.noted ++ flat_map (λ b. b.drawer.noted) l.fn.bearers.items;
+  free : l.initial.drawer.owes ≡ 0 → All (λ b. b.drawer.owes ≡ 0) l.fn.bearers.items → (l.drawer.owes ≡ 0) × All (λ b. b.drawer.owes ≡ 0) (into_iter_items l.bearer-iterator);
   shares : l.drawer.parts + sum_by parts_by (into_iter_items l.bearer-iterator) ≡ l.initial.drawer.parts + sum_by parts_by l.fn.bearers.items;
   kept : (keep : _) (ys : _) → KeptOf keep (l.initial.pass.own ∷ map own_of l.fn.bearers.items) ys → KeptOf keep (l.pass.own ∷ map own_of (into_iter_items l.bearer-iterator)) ys;
   seen : (longer : _) → IsPrefix l.pass.seen longer → All (λ b. IsPrefix b.pass.seen longer) (into_iter_items l.bearer-iterator) → All (λ b. IsPrefix b.pass.seen longer) l.fn.bearers.items;

@@ -40,6 +40,7 @@ loop-number-preserved g c =
         lines = c.in_ok-lines.ensures.items;
         drawn = ap (λ x. x.drawn) seat.value;
         looks = ap (λ x. x.looks) seat.value;
+        owes = ap (λ x. x.owes) seat.value;
       }));
       noted = subst (All (λ b. b.drawer.noted ≡ d.noted ++ d.drawn)) (sym items) (All-push (λ b. b.drawer.noted ≡ d.noted ++ d.drawn) was _ inv.noted
           (ap (λ x. x.noted) seat.value ∙ ap (λ x. x.noted ++ x.drawn) inv.drawer));

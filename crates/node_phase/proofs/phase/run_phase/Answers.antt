@@ -52,6 +52,12 @@ returns-clause-was g c =
           let within : k < length plan = omega (arith, here, c.requires.plan, ap length numbers, length-map slice (λ x. x.number)) in
           (c.work_all.ensures.worked k (first_of plan k within) b here).parts ∙ subst (All (λ b. b.drawer.parts ≡ 1)) (sym same) shares.1 k b here in
           omega (arith, joined.shares, ap (sum_by parts_by) whole, sum_ones parts_by ys ones, long, shares.0);
+      free = λ none.
+          let paid : All (λ (b : BearerOf g.row.F.Denot). b.drawer.owes ≡ 0) ys = λ k b lt.
+          let here : k < length slice = omega (arith, lt, count) in
+          let within : k < length plan = omega (arith, here, c.requires.plan, ap length numbers, length-map slice (λ x. x.number)) in
+          (c.work_all.ensures.worked k (first_of plan k within) b here).owes in
+          joined.free (ap (λ x. x.owes) c.split_all.ensures.drawer ∙ none) (subst (All (λ (b : BearerOf g.row.F.Denot). b.drawer.owes ≡ 0)) (sym whole) paid);
       front = record { rest = entries_of c.join_all.new.pass.own; is = entered.whole parts ∙ ap (λ ms. ms ++ entries_of c.join_all.new.pass.own) first };
       kept = λ keep zs h.
           ap (filter keep) (sym places)
