@@ -57,11 +57,7 @@ pub record IsTold (at_hand told_time : Bool) (due : ℕ) (awaited : Awaited) : T
   pub passed : ℕ
   pub is : told_now (at_hand || ready) told_time passed due ≡ Some awaited
 
--- how many ticks were told, and whether the last that was told was time
-abbrev pub with_told : ℕ → Awaited → ℕ
-with_told told A.Input = told
-with_told told (A.Passed ticks) = min (told + ticks) (2 ^ 64 - 1)
-
+-- whether it was time
 abbrev pub is_time : Awaited → Bool
 is_time A.Input = false
 is_time (A.Passed ticks) = true

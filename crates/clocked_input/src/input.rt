@@ -1,10 +1,11 @@
 //! The source, and its thread.
 #![tactic(auto)]
 
-ghost use Rattle.std.specs.Prelude.{◌≡◌, ℕ, ◌≤◌, length, true, None, IfOk, OnOk, OnErr};
+ghost use Rattle.std.specs.Prelude.{◌≡◌, ◌↔◌, ℕ, ◌≤◌, [], length, take, true, None, IfOk, IfSome, OnOk, OnErr};
+ghost use Rattle.std.specs.Io.KnownBytes.{Consumes, IsAtEnd};
 ghost use Rattle.mesh_base.specs.Outside.{Rose};
-ghost use Rattle.live_lines.specs.Clock.{HasPassed};
-ghost use Rattle.clocked_input.specs.Telling.{IsTold, is_time, with_told};
+ghost use Rattle.live_lines.specs.Clock.{HasPassed, with_told};
+ghost use Rattle.clocked_input.specs.Telling.{IsTold, is_time};
 
 use crate::desk::{Desk, Laid, PIECE_OCTETS};
 use crate::watch::{Sight, Watch, await_told};
@@ -78,6 +79,7 @@ impl<R: Wait + Clock + Drop> ClockedInput<R> {
     fn fail(&mut self) -> Failed
         ensures faults { Rose self.old.faults self.new.faults }
         ensures later { self.old.faults ≤ self.new.faults }
+        ensures told { self.new.told ≡ self.old.told }
     {
         self.faults = self.faults.saturating_add(1);
         Failed
@@ -126,7 +128,17 @@ impl<R: Wait + Clock + Drop> Source for ClockedInput<R> {
 
     ghost faults = { λ s. s.faults };
 
-    fn read(&mut self, buf: &mut [u8]) -> Result<usize, Failed> {
+    fn read(&mut self, buf: &mut [u8]) -> Result<usize, Failed>
+        ensures bound { IfOk result (λ n. n ≤ length buf.new) }
+        ensures octets { IfOk result (λ n. Consumes (⟦<ClockedInput<R> as Source>⟧.left self.old) (⟦<ClockedInput<R> as Source>⟧.left self.new) (take n buf.new)) }
+        ensures end { IfOk result (λ n. IfSome (⟦<ClockedInput<R> as Source>⟧.left self.old) (λ xs. (n ≡ 0) ↔ (xs ≡ []))) }
+        ensures at_end { IfOk result (λ n. n ≡ 0 → IsAtEnd (⟦<ClockedInput<R> as Source>⟧.left self.new)) }
+        ensures unchanged { OnErr result (⟦<ClockedInput<R> as Source>⟧.left self.new ≡ ⟦<ClockedInput<R> as Source>⟧.left self.old) }
+        ensures no_fault { OnOk result (self.new.faults ≡ self.old.faults) }
+        ensures cause { OnErr result (Rose self.old.faults self.new.faults) }
+        ensures later { self.old.faults ≤ self.new.faults }
+        ensures untimed { self.new.told ≡ self.old.told }
+    {
         if self.rest().is_empty() {
             match self.desk.take(&self.rt) {
                 Laid::Piece(piece) => {
@@ -148,14 +160,17 @@ impl<R: Wait + Clock + Drop> Source for ClockedInput<R> {
 impl<R: Wait + Clock + Drop> ClockedSource for ClockedInput<R> {
     ghost clocked = { true };
 
+    ghost time = { λ s. s.told };
+
     fn wait(&mut self, at_hand: bool, due: u32) -> Result<Awaited, Failed>
         ensures passed { IfOk result (HasPassed true) }
+        ensures counted { IfOk result (λ a. self.new.told ≡ with_told self.old.told a) }
+        ensures uncounted { OnErr result (self.new.told ≡ self.old.told) }
         ensures unread { ⟦<ClockedInput<R> as Source>⟧.left self.new ≡ ⟦<ClockedInput<R> as Source>⟧.left self.old }
         ensures no_fault { OnOk result (self.new.faults ≡ self.old.faults) }
         ensures cause { OnErr result (Rose self.old.faults self.new.faults) }
         ensures sure { OnErr result (true ≡ true) }
         ensures told { IfOk result (IsTold at_hand self.old.told_time due) }
-        ensures count { IfOk result (λ a. self.new.told ≡ with_told self.old.told a) }
         ensures time { IfOk result (λ a. self.new.told_time ≡ is_time a) }
     {
         let mut watch = DeskWatch {
@@ -171,5 +186,9 @@ impl<R: Wait + Clock + Drop> ClockedSource for ClockedInput<R> {
             }
             Err(_) => Err(self.fail()),
         }
+    }
+
+    fn read_on(&mut self, buf: &mut [u8]) -> Result<usize, Failed> {
+        self.read(buf)
     }
 }

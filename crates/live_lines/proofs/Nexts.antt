@@ -24,18 +24,18 @@ pub given : {A : Type 0} (f : A → List (List Event)) (o : Option A) (bearers e
 given f None bearers elements clocked front old new before live is h = tt
 given f (Some x) bearers elements clocked front old new before live is h = (is, h)
 
-module _ {S E : Type 0} (clocked : Bool) (left : S → Option (List ℕ)) (source_faults : S → ℕ) (took : E → Option (List ℕ))
+module _ {S E : Type 0} (clocked : Bool) (left : S → Option (List ℕ)) (source_faults : S → ℕ) (time : S → ℕ) (took : E → Option (List ℕ))
     (pieces : E → Option (List (List ℕ))) (sink_faults : E → ℕ) (bearers elements : ℕ) (old new : LinePhases S E) where
   pub fails_from : (why : LineStop) (used : List ℕ)
-      → Fails old.lines.bearers old.lines.elements clocked why (lines_behind left source_faults took pieces sink_faults used old.lines)
-      (lines_at left source_faults took pieces sink_faults new.lines)
-      → FailsFrom clocked left source_faults took pieces sink_faults bearers elements why used old new
+      → Fails old.lines.bearers old.lines.elements clocked why (lines_behind left source_faults time took pieces sink_faults used old.lines)
+      (lines_at left source_faults time took pieces sink_faults new.lines)
+      → FailsFrom clocked left source_faults time took pieces sink_faults bearers elements why used old new
   fails_from L.Source used h = h
   fails_from L.Errors used h = h
   fails_from L.Memory used h = h
   fails_from L.Endless used h = h
   fails_from L.OtherNode used h = absurd h.fails
 
-  pub fails_now : old.lines.why ≡ None → (why : LineStop) → FailsFor clocked left source_faults took pieces sink_faults bearers elements why old new
-      → FailsBehind clocked left source_faults took pieces sink_faults bearers elements old.lines.why old new
-  fails_now e why h = subst (λ (o : Option LineStop). FailsBehind clocked left source_faults took pieces sink_faults bearers elements o old new) (sym e) (why, h)
+  pub fails_now : old.lines.why ≡ None → (why : LineStop) → FailsFor clocked left source_faults time took pieces sink_faults bearers elements why old new
+      → FailsBehind clocked left source_faults time took pieces sink_faults bearers elements old.lines.why old new
+  fails_now e why h = subst (λ (o : Option LineStop). FailsBehind clocked left source_faults time took pieces sink_faults bearers elements o old new) (sym e) (why, h)

@@ -5,15 +5,39 @@ use Rattle.std.specs.Io.KnownBytes.{Consumes}
 use Rattle.mesh_base.specs.Outside.{one_more}
 use Rattle.report_writer.specs.Writing.{SinkView}
 use Rattle.script_definitions.specs.declared.line.ScriptLine.{ScriptLine}
+use Rattle.script_definitions.specs.declared.line.ScriptLine.TheVariants as S
+use Rattle.live_lines.specs.Clock.{AreTicks, told_more, with_told}
 use Rattle.live_lines.specs.Moves.{DoesAll, LinesAt}
 use Rattle.live_lines.specs.Nexts.{IsNextLine, IsRound}
-use Rattle.live_lines.specs.Steps.{Comes, Fails, FailsAt, FailsBy, FailsToWait}
+use Rattle.live_lines.specs.Steps.{Comes, Fails, FailsAt, FailsBy, FailsToWait, HasWaited, TellsTime}
+use Rattle.live_lines.specs.declared.clock.Awaited.{Awaited}
+use Rattle.live_lines.specs.declared.clock.Awaited.TheVariants as A
 use Rattle.live_lines.specs.declared.line_phases.Round.{Round}
 use Rattle.live_lines.specs.declared.line_phases.Round.TheVariants as R
 use Rattle.live_lines.specs.declared.lines.LineStop.{LineStop}
 use Rattle.live_lines.specs.declared.lines.LineStop.TheVariants as L
 use Rattle.live_lines.proofs.Moving.{HasMoved}
 use Rattle.live_lines.proofs.Turning.{reads_none}
+
+-- time that the source told
+pub tells : (ticks : ℕ) (old new : LinesAt) → AreTicks ticks → new ≡ record old { time = told_more old.time ticks } → TellsTime (S.Tick 0 ticks) old new
+tells ticks old new some h =
+    let time : new.time ≡ told_more old.time ticks = ap (λ (a : LinesAt). a.time) h in
+    record { passed = record { ticks = ticks; some = some; is = refl; told = time }; same = h ∙ ap (λ (t : ℕ). record old { time = t }) (sym time) }
+
+-- a source that was waited for, of which nothing was read
+pub has_waited : (awaited : Awaited) (left more : Option (List ℕ)) (held : List ℕ) (number : ℕ) (told : SinkView) (faults after sink time later : ℕ)
+    → more ≡ left → after ≡ faults → later ≡ with_told time awaited
+    → HasWaited awaited (record { left = left; held = held; number = number; told = told; source_faults = faults; sink_faults = sink; time = time })
+    (record { left = more; held = held; number = number; told = told; source_faults = after; sink_faults = sink; time = later })
+has_waited A.Input left more held number told faults after sink time later read same clock =
+    ap (λ (l : Option (List ℕ)). record { left = l; held = held; number = number; told = told; source_faults = after; sink_faults = sink; time = later }) read
+    ∙ ap (λ (n : ℕ). record { left = left; held = held; number = number; told = told; source_faults = n; sink_faults = sink; time = later }) same
+    ∙ ap (λ (t : ℕ). record { left = left; held = held; number = number; told = told; source_faults = faults; sink_faults = sink; time = t }) clock
+has_waited (A.Passed ticks) left more held number told faults after sink time later read same clock =
+    ap (λ (l : Option (List ℕ)). record { left = l; held = held; number = number; told = told; source_faults = after; sink_faults = sink; time = later }) read
+    ∙ ap (λ (n : ℕ). record { left = left; held = held; number = number; told = told; source_faults = n; sink_faults = sink; time = later }) same
+    ∙ ap (λ (t : ℕ). record { left = left; held = held; number = number; told = told; source_faults = faults; sink_faults = sink; time = t }) clock
 
 module _ (bearers elements : ℕ) (clocked : Bool) where
   -- a move that failed, and a wait
@@ -54,10 +78,7 @@ module _ (bearers elements : ℕ) (clocked : Bool) where
         r.0.1,
         elim r.0.2 [
           | inl says ↦ inl (record { moves = h.moves; mid = mid h.used; before = h.did; says = says })
-          | inr time ↦ inr (
-            time.0,
-            record { passed = time.1; moves = h.moves; before = subst (λ (s : LinesAt). DoesAll bearers elements h.moves old s) (sym time.2) h.did },
-          )
+          | inr time ↦ inr (time.0, record { moves = h.moves; mid = mid h.used; before = h.did; tells = time.1 })
         ],
       ),
       r.1,
@@ -85,5 +106,12 @@ module _ (bearers elements : ℕ) (clocked : Bool) where
                 ∙ ap (λ (l : Option (List ℕ)). record g.mid { left = l; held = held; number = one_more g.mid.number }) (sym left);
           });
         }
-    | inr t ↦ record { moves = t.1.moves; mid = new; before = t.1.before; fails = inr (t.0, record { same = refl }) }
+    | inr t ↦
+        let tells = t.1.tells in
+        record {
+          moves = t.1.moves;
+          mid = t.1.mid;
+          before = t.1.before;
+          fails = inr (t.0, record { line = line; passed = tells.passed; same = ap (λ (a : LinesAt). record a { held = held }) tells.same });
+        }
   ]

@@ -38,7 +38,7 @@ held_none used held next e = ap (λ (xs : List ℕ). (used ++ held) ++ xs) e ∙
 
 -- a whole line, of which this front is kept
 
-module _ (bearers elements number : ℕ) (left : Option (List ℕ)) (held raw front : List ℕ) (faults before : ℕ) (old : SinkView)
+module _ (bearers elements number : ℕ) (left : Option (List ℕ)) (held raw front : List ℕ) (faults before time : ℕ) (old : SinkView)
     (is : IsFrontOf front raw) where
   abbrev line : List ℕ
   line = without_cr front
@@ -47,10 +47,10 @@ module _ (bearers elements number : ℕ) (left : Option (List ℕ)) (held raw fr
   saying = line_says bearers elements line
 
   abbrev begun : LinesAt
-  begun = record { left = left; held = (raw ++ 10 ∷ []) ++ held; number = number; told = old; source_faults = faults; sink_faults = before }
+  begun = record { left = left; held = (raw ++ 10 ∷ []) ++ held; number = number; told = old; source_faults = faults; sink_faults = before; time = time }
 
   abbrev behind : SinkView → ℕ → LinesAt
-  behind new after = record { left = left; held = held; number = one_more number; told = new; source_faults = faults; sink_faults = after }
+  behind new after = record { left = left; held = held; number = one_more number; told = new; source_faults = faults; sink_faults = after; time = time }
 
   takes : (new : SinkView) (after : ℕ) → after ≡ before → TakesLine raw begun (behind new after)
   takes new after same = record {
@@ -109,14 +109,14 @@ module _ (bearers elements number : ℕ) (left : Option (List ℕ)) (held raw fr
 
 -- no whole line, and nothing is held but these octets, of which this front is kept
 
-module _ (bearers elements number : ℕ) (left : Option (List ℕ)) (used front : List ℕ) (faults before : ℕ) (old : SinkView)
+module _ (bearers elements number : ℕ) (left : Option (List ℕ)) (used front : List ℕ) (faults before time : ℕ) (old : SinkView)
     (is : IsFrontOf front used) where
   abbrev waiting : LinesAt
-  waiting = record { left = left; held = used ++ []; number = number; told = old; source_faults = faults; sink_faults = before }
+  waiting = record { left = left; held = used ++ []; number = number; told = old; source_faults = faults; sink_faults = before; time = time }
 
   abbrev now : Option (List ℕ) → List ℕ → ℕ → SinkView → ℕ → ℕ → LinesAt
   now more held count told read_faults tell_faults =
-      record { left = more; held = held; number = count; told = told; source_faults = read_faults; sink_faults = tell_faults }
+      record { left = more; held = held; number = count; told = told; source_faults = read_faults; sink_faults = tell_faults; time = time }
 
   no_lf : HasNoLf (used ++ [])
   no_lf = subst HasNoLf (sym (append-nil used)) is.0

@@ -12,7 +12,7 @@ use Rattle.live_lines.specs.declared.saying.Saying.{Saying}
 use Rattle.live_lines.specs.declared.saying.Saying.TheVariants as S
 
 -- Where it is: the octets that its source still gives, where they are told; those that were read and aren't used yet; how many lines there
--- were; what the sink of wrong lines tells; and how many calls of the source and of that sink failed.
+-- were; what the sink of wrong lines tells; how many calls of the source and of that sink failed; and how many ticks the source told.
 pub record LinesAt : Type 0 where
   pub left : Option (List ℕ)
   pub held : List ℕ
@@ -20,6 +20,7 @@ pub record LinesAt : Type 0 where
   pub told : SinkView
   pub source_faults : ℕ
   pub sink_faults : ℕ
+  pub time : ℕ
 
 -- octets in which no line ends
 abbrev pub HasNoLf : List ℕ → Type 0

@@ -2,10 +2,9 @@
 use Rattle.std.specs.Prelude.{◌≡◌, ◌⊎◌, ℕ, Bool, true, List, [], Option, Some, None, Result, IfErr, IfOk, ⊤}
 use Rattle.mesh_types.specs.declared.events.Event.{Event}
 use Rattle.script_definitions.specs.declared.line.ScriptLine.{ScriptLine}
-use Rattle.live_lines.specs.Clock.{IsTimeLine}
 use Rattle.live_lines.specs.Moves.{LinesAt}
 use Rattle.live_lines.specs.Saying.{IsSaid}
-use Rattle.live_lines.specs.Steps.{Comes, Ends, EndsAt, FailsAt, GivesPhase, SaysEvent}
+use Rattle.live_lines.specs.Steps.{Comes, Ends, EndsAt, FailsAt, GivesPhase, SaysEvent, TellsTime}
 use Rattle.live_lines.specs.Turns.{IsFrontOf, IsTurn}
 use Rattle.live_lines.specs.declared.lines.LineSource.{LineSource}
 use Rattle.live_lines.specs.declared.lines.LineStop.{LineStop}
@@ -24,9 +23,9 @@ IsRoundSaid elements (R.Comes line) = IsSaid elements (S.Happens line)
 IsRoundSaid elements _ = ⊤
 
 module _ (bearers elements : ℕ) (clocked : Bool) where
-  -- the first line that is held says this, or so much time passed
+  -- the first line that is held says this, or so much time that the source told
   abbrev pub ComesNow : ScriptLine → LinesAt → LinesAt → Type 0
-  ComesNow line old new = SaysEvent bearers elements line old new ⊎ ((clocked ≡ true) × IsTimeLine line × (new ≡ old))
+  ComesNow line old new = SaysEvent bearers elements line old new ⊎ ((clocked ≡ true) × TellsTime line old new)
 
   abbrev pub IsRound : Round → List ℕ → LinesAt → (List ℕ → LinesAt) → Type 0
   IsRound R.Moved front old new = IsTurn bearers elements T.Moved front old new

@@ -26,22 +26,22 @@ IsLive old new = (old.lines.why ≡ None) × IsSameNode old.lines new.lines
 abbrev pub IsLiveFor : {S E : Type 0} → ℕ → ℕ → LinePhases S E → LinePhases S E → Type 0
 IsLiveFor bearers elements old new = IsOf bearers elements old × IsLive old new
 
-module _ {S E : Type 0} (clocked : Bool) (left : S → Option (List ℕ)) (source_faults : S → ℕ) (took : E → Option (List ℕ))
+module _ {S E : Type 0} (clocked : Bool) (left : S → Option (List ℕ)) (source_faults : S → ℕ) (time : S → ℕ) (took : E → Option (List ℕ))
     (pieces : E → Option (List (List ℕ))) (sink_faults : E → ℕ) where
   -- it gave a phase, whichever octets of the next line were used before
   abbrev pub Gives : LinePhases S E → List (List Event) → LinePhases S E → Type 0
   Gives old lists new = (used : List ℕ) → IsFrontOf old.front used
       → Used new.front
       (λ now. GivesPhase old.lines.bearers old.lines.elements clocked lists
-      (lines_behind left source_faults took pieces sink_faults used old.lines)
-      (lines_behind left source_faults took pieces sink_faults now new.lines))
+      (lines_behind left source_faults time took pieces sink_faults used old.lines)
+      (lines_behind left source_faults time took pieces sink_faults now new.lines))
 
   -- it came to the end
   abbrev pub ComesToEnd : LinePhases S E → LinePhases S E → Type 0
   ComesToEnd old new = (used : List ℕ) → IsFrontOf old.front used
       → Ends old.lines.bearers old.lines.elements
-      (lines_behind left source_faults took pieces sink_faults used old.lines)
-      (lines_at left source_faults took pieces sink_faults new.lines)
+      (lines_behind left source_faults time took pieces sink_faults used old.lines)
+      (lines_at left source_faults time took pieces sink_faults new.lines)
 
   -- where it was asked for a phase of such a node
   module _ (bearers elements : ℕ) where
@@ -49,13 +49,13 @@ module _ {S E : Type 0} (clocked : Bool) (left : S → Option (List ℕ)) (sourc
     abbrev pub FailsFrom : LineStop → List ℕ → LinePhases S E → LinePhases S E → Type 0
     FailsFrom L.OtherNode used old new =
         IsOfOther bearers elements old
-        × (lines_behind left source_faults took pieces sink_faults used new.lines
-        ≡ lines_behind left source_faults took pieces sink_faults used old.lines)
+        × (lines_behind left source_faults time took pieces sink_faults used new.lines
+        ≡ lines_behind left source_faults time took pieces sink_faults used old.lines)
         × (new.front ≡ old.front)
     FailsFrom why used old new =
         Fails old.lines.bearers old.lines.elements clocked why
-        (lines_behind left source_faults took pieces sink_faults used old.lines)
-        (lines_at left source_faults took pieces sink_faults new.lines)
+        (lines_behind left source_faults time took pieces sink_faults used old.lines)
+        (lines_at left source_faults time took pieces sink_faults new.lines)
 
     abbrev pub FailsAs : LineStop → LinePhases S E → LinePhases S E → Type 0
     FailsAs why old new = (used : List ℕ) → IsFrontOf old.front used → FailsFrom why used old new

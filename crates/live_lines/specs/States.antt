@@ -4,7 +4,7 @@ use Rattle.report_writer.specs.Writing.{view_of}
 use Rattle.live_lines.specs.Moves.{LinesAt}
 use Rattle.live_lines.specs.declared.lines.LineSource.{LineSource}
 
-module _ {S E : Type 0} (left : S → Option (List ℕ)) (source_faults : S → ℕ) (took : E → Option (List ℕ))
+module _ {S E : Type 0} (left : S → Option (List ℕ)) (source_faults : S → ℕ) (time : S → ℕ) (took : E → Option (List ℕ))
     (pieces : E → Option (List (List ℕ))) (sink_faults : E → ℕ) where
   -- within a call, where these octets of a line were used already
   abbrev pub lines_behind : List ℕ → LineSource S E → LinesAt
@@ -15,6 +15,7 @@ module _ {S E : Type 0} (left : S → Option (List ℕ)) (source_faults : S → 
     told = view_of took pieces l.errors;
     source_faults = source_faults l.source;
     sink_faults = sink_faults l.errors;
+    time = time l.source;
   }
 
   -- between two calls
@@ -26,6 +27,7 @@ module _ {S E : Type 0} (left : S → Option (List ℕ)) (source_faults : S → 
     told = view_of took pieces l.errors;
     source_faults = source_faults l.source;
     sink_faults = sink_faults l.errors;
+    time = time l.source;
   }
 
 -- the same node, which hasn't failed but where it had

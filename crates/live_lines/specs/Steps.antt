@@ -7,10 +7,12 @@ use Rattle.report_writer.specs.Handing.{HandedFront, IsHanded}
 use Rattle.report_writer.specs.Writing.{SinkView}
 use Rattle.script_definitions.specs.Words.{without_cr}
 use Rattle.script_definitions.specs.declared.line.ScriptLine.{ScriptLine}
-use Rattle.live_lines.specs.Clock.{IsTimeLine}
+use Rattle.live_lines.specs.Clock.{IsTimeLine, told_more}
 use Rattle.live_lines.specs.Moves.{DoesAll, HasNoLf, LinesAt, Move, TakesLine}
 use Rattle.live_lines.specs.Saying.{IsSaid, line_says, phase_of}
 use Rattle.live_lines.specs.Texts.{unended_text, wrong_text}
+use Rattle.live_lines.specs.declared.clock.Awaited.{Awaited}
+use Rattle.live_lines.specs.declared.clock.Awaited.TheVariants as A
 use Rattle.live_lines.specs.declared.lines.LineStop.{LineStop}
 use Rattle.live_lines.specs.declared.lines.LineStop.TheVariants as L
 use Rattle.live_lines.specs.declared.saying.Saying.TheVariants as S
@@ -32,9 +34,21 @@ pub record EndsAt (old new : LinesAt) : Type 0 where
   pub told : IsRestTold old.number old.held old.told new.told
   pub same : new ≡ record old { left = new.left; held = []; number = with_rest old.number old.held; told = new.told }
 
--- For want of memory time that passed is lost, of which nothing is told.
+-- For want of memory time that the source told is lost, of which nothing is told.
 pub record LosesTime (old new : LinesAt) : Type 0 where
-  pub same : new ≡ record old { held = new.held }
+  pub line : ScriptLine
+  pub passed : IsTimeLine line old.time new.time
+  pub same : new ≡ record old { held = new.held; time = new.time }
+
+-- the source told time, and this line says how much
+pub record TellsTime (line : ScriptLine) (old new : LinesAt) : Type 0 where
+  pub passed : IsTimeLine line old.time new.time
+  pub same : new ≡ record old { time = new.time }
+
+-- the source was waited for: nothing was read, and what it told is counted
+abbrev pub HasWaited : Awaited → LinesAt → LinesAt → Type 0
+HasWaited A.Input old new = new ≡ old
+HasWaited (A.Passed ticks) old new = new ≡ record old { time = told_more old.time ticks }
 
 -- the source failed when it was waited for
 pub record FailsToWait (old new : LinesAt) : Type 0 where
@@ -99,11 +113,12 @@ module _ (bearers elements : ℕ) where
     pub before : DoesAll bearers elements moves old mid
     pub says : SaysEvent line mid new
 
-  -- by moves, behind which time passed: this line says how much
+  -- by moves, behind which the source told time: this line says how much
   pub record GivesTime (line : ScriptLine) (old new : LinesAt) : Type 0 where
-    pub passed : IsTimeLine line
     pub moves : List Move
-    pub before : DoesAll bearers elements moves old new
+    pub mid : LinesAt
+    pub before : DoesAll bearers elements moves old mid
+    pub tells : TellsTime line mid new
 
   pub record Ends (old new : LinesAt) : Type 0 where
     pub moves : List Move

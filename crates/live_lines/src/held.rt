@@ -6,8 +6,9 @@ ghost use Rattle.std.specs.Io.KnownBytes.{Consumes, IsAtEnd};
 ghost use Rattle.mesh_base.specs.Outside.{Rose};
 ghost use Rattle.live_lines.specs.Moves.{HasNoLf};
 
+use crate::clock::ClockedSource;
 use crate::front::{LineFront, push_front};
-use mesh_base::outside::{Failed, Source};
+use mesh_base::outside::Failed;
 use std::alloc::{AllocError, Global};
 use std::marker::Model;
 
@@ -66,7 +67,7 @@ impl Held {
     }
 
     /// Reads octets, where none is held; 0 is the end of the source.
-    pub fn fill<S: Source>(&mut self, source: &mut S) -> Result<usize, Failed>
+    pub fn fill<S: ClockedSource>(&mut self, source: &mut S) -> Result<usize, Failed>
         requires none { self.old ≡ [] }
         ensures count { IfOk result (λ n. n ≡ length self.new) }
         ensures octets { OnOk result (Consumes (S.left source.old) (S.left source.new) self.new) }
@@ -75,10 +76,11 @@ impl Held {
         ensures no_fault { OnOk result (S.faults source.new ≡ S.faults source.old) }
         ensures cause { OnErr result (Rose (S.faults source.old) (S.faults source.new)) }
         ensures later { S.faults source.old ≤ S.faults source.new }
+        ensures untimed { S.time source.new ≡ S.time source.old }
     {
         self.from = 0;
         self.to = 0;
-        match source.read(self.octets.as_mut_slice()) {
+        match source.read_on(self.octets.as_mut_slice()) {
             Ok(count) => {
                 self.to = count;
                 Ok(count)

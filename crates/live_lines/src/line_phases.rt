@@ -1,13 +1,13 @@
 //! Phases from the lines of a source, and from time that it tells.
 #![tactic(auto)]
 
-ghost use Rattle.std.specs.Prelude.{◌≡◌, ℕ, ◌<◌, List, [], length, map, true, IfOk, IfSome, IfErr, OnOk};
+ghost use Rattle.std.specs.Prelude.{◌≡◌, ℕ, ◌<◌, List, [], length, map, true, IfOk, IfSome, IfErr};
 ghost use Rattle.std.specs.Option.{option_map};
 ghost use Rattle.live_lines.specs.Clock.{HasPassed};
 ghost use Rattle.live_lines.specs.Nexts.{IsNextLine, IsNextPhase, IsRoundOf, IsRoundSaid};
 ghost use Rattle.live_lines.specs.Saying.{IsPhaseOfLine, IsSaid};
 ghost use Rattle.live_lines.specs.States.{IsSameNode, lines_at, lines_behind};
-ghost use Rattle.live_lines.specs.Steps.{Fails, FailsToWait};
+ghost use Rattle.live_lines.specs.Steps.{Fails, FailsToWait, HasWaited};
 ghost use Rattle.live_lines.specs.Turns.{IsFrontOf};
 ghost use Rattle.live_lines.specs.declared.lines.LineStop.TheVariants as stop;
 ghost use Rattle.live_lines.specs.declared.saying.Saying.TheVariants as said;
@@ -103,13 +103,13 @@ impl<S: ClockedSource, E: Sink> LinePhases<S, E> {
         ensures front { self.new.front ≡ self.old.front }
         ensures frame { IsSameNode self.old.lines self.new.lines }
         ensures passed { IfOk result (HasPassed S.clocked) }
-        ensures still { (used : List ℕ) → OnOk result
-            (lines_behind S.left S.faults E.held E.pieces E.faults used self.new.lines
-            ≡ lines_behind S.left S.faults E.held E.pieces E.faults used self.old.lines) }
+        ensures still { (used : List ℕ) → IfOk result
+            (λ a. HasWaited a (lines_behind S.left S.faults S.time E.held E.pieces E.faults used self.old.lines)
+            (lines_behind S.left S.faults S.time E.held E.pieces E.faults used self.new.lines)) }
         ensures stop { (used : List ℕ) → IfErr result
             (λ why. (why ≡ stop.Source) × (S.clocked ≡ true)
-            × FailsToWait (lines_behind S.left S.faults E.held E.pieces E.faults used self.old.lines)
-            (lines_at S.left S.faults E.held E.pieces E.faults self.new.lines)) }
+            × FailsToWait (lines_behind S.left S.faults S.time E.held E.pieces E.faults used self.old.lines)
+            (lines_at S.left S.faults S.time E.held E.pieces E.faults self.new.lines)) }
     {
         let at_hand = self.lines.held.has_line();
         match self.lines.source.wait(at_hand, due) {
@@ -122,7 +122,7 @@ impl<S: ClockedSource, E: Sink> LinePhases<S, E> {
     fn turn(&mut self) -> Result<Round, LineStop>
         ensures frame { IsSameNode self.old.lines self.new.lines }
         ensures ranges { IfOk result (IsRoundSaid self.old.lines.elements) }
-        ensures rounds { IsRoundOf (lines_behind S.left S.faults E.held E.pieces E.faults) S.clocked result self.old.front
+        ensures rounds { IsRoundOf (lines_behind S.left S.faults S.time E.held E.pieces E.faults) S.clocked result self.old.front
             self.new.front self.old.lines self.new.lines }
     {
         match self.lines.turn(&mut self.front) {
@@ -140,7 +140,7 @@ impl<S: ClockedSource, E: Sink> LinePhases<S, E> {
     fn round(&mut self, due: u32) -> Result<Round, LineStop>
         ensures frame { IsSameNode self.old.lines self.new.lines }
         ensures ranges { IfOk result (IsRoundSaid self.old.lines.elements) }
-        ensures rounds { IsRoundOf (lines_behind S.left S.faults E.held E.pieces E.faults) S.clocked result self.old.front
+        ensures rounds { IsRoundOf (lines_behind S.left S.faults S.time E.held E.pieces E.faults) S.clocked result self.old.front
             self.new.front self.old.lines self.new.lines }
     {
         match self.wait(due) {
@@ -159,12 +159,12 @@ impl<S: ClockedSource, E: Sink> LinePhases<S, E> {
         ensures ranges { IfOk result (λ r. IfSome r (λ line. IsSaid self.old.lines.elements (said.Happens line))) }
         ensures ok { (used : List ℕ) → IsFrontOf self.old.front used → IfOk result
             (λ r. IsNextLine self.old.lines.bearers self.old.lines.elements S.clocked r self.new.front
-            (lines_behind S.left S.faults E.held E.pieces E.faults used self.old.lines)
-            (λ now. lines_behind S.left S.faults E.held E.pieces E.faults now self.new.lines)) }
+            (lines_behind S.left S.faults S.time E.held E.pieces E.faults used self.old.lines)
+            (λ now. lines_behind S.left S.faults S.time E.held E.pieces E.faults now self.new.lines)) }
         ensures stop { (used : List ℕ) → IsFrontOf self.old.front used → IfErr result
             (λ why. Fails self.old.lines.bearers self.old.lines.elements S.clocked why
-            (lines_behind S.left S.faults E.held E.pieces E.faults used self.old.lines)
-            (lines_at S.left S.faults E.held E.pieces E.faults self.new.lines)) }
+            (lines_behind S.left S.faults S.time E.held E.pieces E.faults used self.old.lines)
+            (lines_at S.left S.faults S.time E.held E.pieces E.faults self.new.lines)) }
     {
         for _move in 0..u64::MAX {
             match self.round(due) {
@@ -189,15 +189,15 @@ impl<S: ClockedSource, E: Sink> LinePhases<S, E> {
         ensures ok { (used : List ℕ) → IsFrontOf self.old.front used → IfOk result
             (λ r. IsNextPhase self.old.lines.bearers self.old.lines.elements S.clocked
             (option_map (λ lists. map (λ v. v.items) lists.items) r) self.new.front
-            (lines_behind S.left S.faults E.held E.pieces E.faults used self.old.lines)
-            (λ now. lines_behind S.left S.faults E.held E.pieces E.faults now self.new.lines)) }
+            (lines_behind S.left S.faults S.time E.held E.pieces E.faults used self.old.lines)
+            (λ now. lines_behind S.left S.faults S.time E.held E.pieces E.faults now self.new.lines)) }
         ensures line { IfOk result
             (λ r. IfSome r
             (λ lists. IsPhaseOfLine self.old.lines.bearers self.old.lines.elements (map (λ v. v.items) lists.items))) }
         ensures stop { (used : List ℕ) → IsFrontOf self.old.front used → IfErr result
             (λ why. Fails self.old.lines.bearers self.old.lines.elements S.clocked why
-            (lines_behind S.left S.faults E.held E.pieces E.faults used self.old.lines)
-            (lines_at S.left S.faults E.held E.pieces E.faults self.new.lines)) }
+            (lines_behind S.left S.faults S.time E.held E.pieces E.faults used self.old.lines)
+            (lines_at S.left S.faults S.time E.held E.pieces E.faults self.new.lines)) }
     {
         match self.next_line(due) {
             Ok(Some(line)) => {

@@ -13,11 +13,12 @@ ghost use Rattle.live_lines.specs.Texts.{unended_text, wrong_text};
 ghost use Rattle.live_lines.specs.Turns.{IsFrontOf, IsLost, IsTaken, IsTurn, IsTurnOf, IsTurnSaid, IsUntold};
 ghost use Rattle.live_lines.specs.declared.saying.Saying.TheVariants as said;
 
+use crate::clock::ClockedSource;
 use crate::front::LineFront;
 use crate::held::Held;
 use crate::saying::{Saying, line_says};
 use crate::texts::{unended_text, wrong_text};
-use mesh_base::outside::{Sink, Source};
+use mesh_base::outside::Sink;
 use report_writer::write_text;
 use script_definitions::line::ScriptLine;
 use script_events::OutsideNode;
@@ -126,7 +127,7 @@ fn tell_unended<E: Sink>(alloc: Global, errors: &mut E, number: u64) -> Result<(
     }
 }
 
-impl<S: Source, E: Sink> LineSource<S, E> {
+impl<S: ClockedSource, E: Sink> LineSource<S, E> {
     /// Counts a line, by its front, and passes over it, unless it says an event.
     fn take(&mut self, front: &[u8]) -> Result<Option<ScriptLine>, LineStop>
         ensures frame { self.new ≡ record self.old { number = one_more self.old.number; errors = self.new.errors } }
@@ -184,12 +185,12 @@ impl<S: Source, E: Sink> LineSource<S, E> {
         ensures ranges { IfOk result (IsTurnSaid self.old.elements) }
         ensures ok { (raw : List ℕ) → IsFrontOf front.old raw → IfOk result
             (λ t. IsTurn self.old.bearers self.old.elements t front.new
-            (lines_behind S.left S.faults E.held E.pieces E.faults (raw ++ 10 ∷ []) self.old)
-            (λ now. lines_behind S.left S.faults E.held E.pieces E.faults now self.new)) }
+            (lines_behind S.left S.faults S.time E.held E.pieces E.faults (raw ++ 10 ∷ []) self.old)
+            (λ now. lines_behind S.left S.faults S.time E.held E.pieces E.faults now self.new)) }
         ensures stop { (raw : List ℕ) (n : ℕ) → IsFrontOf front.old raw → IfErr result
             (λ why. FailsBy self.old.bearers self.old.elements why n
-            (lines_behind S.left S.faults E.held E.pieces E.faults (raw ++ 10 ∷ []) self.old)
-            (lines_at S.left S.faults E.held E.pieces E.faults self.new)) }
+            (lines_behind S.left S.faults S.time E.held E.pieces E.faults (raw ++ 10 ∷ []) self.old)
+            (lines_at S.left S.faults S.time E.held E.pieces E.faults self.new)) }
     {
         let taken = self.take(front.as_slice());
         *front = LineFront::new();
@@ -205,7 +206,7 @@ impl<S: Source, E: Sink> LineSource<S, E> {
         requires none { self.old.held ≡ [] }
         ensures frame { IsSameNode self.old self.new }
         ensures ranges { IfOk result (IsTurnSaid self.old.elements) }
-        ensures turns { IsTurnOf (lines_behind S.left S.faults E.held E.pieces E.faults) result front.now front.now self.old
+        ensures turns { IsTurnOf (lines_behind S.left S.faults S.time E.held E.pieces E.faults) result front.now front.now self.old
             self.new }
     {
         match self.held.fill(&mut self.source) {
@@ -222,7 +223,7 @@ impl<S: Source, E: Sink> LineSource<S, E> {
     pub(crate) fn turn(&mut self, front: &mut LineFront) -> Result<Turn, LineStop>
         ensures frame { IsSameNode self.old self.new }
         ensures ranges { IfOk result (IsTurnSaid self.old.elements) }
-        ensures turns { IsTurnOf (lines_behind S.left S.faults E.held E.pieces E.faults) result front.old front.new self.old
+        ensures turns { IsTurnOf (lines_behind S.left S.faults S.time E.held E.pieces E.faults) result front.old front.new self.old
             self.new }
     {
         if self.held.take_line(front) {

@@ -11,7 +11,7 @@ use mesh_node::{PhaseSource, SourceFailed};
 use mesh_types::events::Event;
 
 impl<S: ClockedSource, E: Sink> PhaseSource for LinePhases<S, E> {
-    ghost steps = { line_steps S.clocked S.left S.faults E.held E.pieces E.faults };
+    ghost steps = { line_steps S.clocked S.left S.faults S.time E.held E.pieces E.faults };
 
     fn next(
         &mut self,

@@ -39,21 +39,21 @@ use Rattle.live_node.specs.declared.status.Status.{Status}
 use Rattle.live_node.specs.declared.status.Status.TheVariants as V
 use Rattle.live_node.proofs.Said as Said
 
-module _ {S E K F : Type 0} (clocked : Bool) (left : S → Option (List ℕ)) (source_faults : S → ℕ) (took : E → Option (List ℕ)) (told_pieces : E → Option (List (List ℕ))) (errors_faults : E → ℕ)
+module _ {S E K F : Type 0} (clocked : Bool) (left : S → Option (List ℕ)) (source_faults : S → ℕ) (time : S → ℕ) (took : E → Option (List ℕ)) (told_pieces : E → Option (List (List ℕ))) (errors_faults : E → ℕ)
     (held : K → Option (List ℕ)) (pieces : K → Option (List (List ℕ))) (faults : K → ℕ)
     (Stood : List StoreRecord → MachineView → Type 0) (role : Role) (image : List ℕ → Type 0) (IsDue : List Entry → ℕ → Type 0) (sinks : SinkSteps (LiveReport K)) (bearers : ℕ) (start new : Chip) (ready left_over : F)
     (lines lines' : LinePhases S E) (report report' : LiveReport K) (sink : K) (refills : ℕ) (drawn : ClosedView) (closed : Bool) where
   abbrev at : LinePhases S E → LinesAt
-  at l = Said.at clocked left source_faults took told_pieces errors_faults l
+  at l = Said.at clocked left source_faults time took told_pieces errors_faults l
 
   abbrev behind : List ℕ → LinePhases S E → LinesAt
-  behind used l = Said.behind clocked left source_faults took told_pieces errors_faults used l
+  behind used l = Said.behind clocked left source_faults time took told_pieces errors_faults used l
 
   abbrev view : K → SinkView
   view k = view_of held pieces k
 
   abbrev Lived : LastStep → Type 0
-  Lived last = LivedOn Stood role image IsDue (Said.line_steps clocked left source_faults took told_pieces errors_faults) sinks lines lines' report report' bearers start new ready left_over refills drawn closed last
+  Lived last = LivedOn Stood role image IsDue (Said.line_steps clocked left source_faults time took told_pieces errors_faults) sinks lines lines' report report' bearers start new ready left_over refills drawn closed last
 
   module _ (from : StreamsAt) (before : SinkView) (opened : Opened) (whole : AllIsWritten) (first : Written (opened_line 1 opened ∷ []) before (view report.sink)) (begins : at lines ≡ begun from) (unfailed_yet : lines.lines.why ≡ None) (unused : IsFrontOf lines.front []) (only : left_over ≡ ready → MigratesOnly start new) where
     abbrev to : StreamsAt
@@ -92,6 +92,7 @@ module _ {S E K F : Type 0} (clocked : Bool) (left : S → Option (List ℕ)) (s
         all = lived.all;
         paid = lived.paid;
         from_moves = lived.from;
+        hand = lived.hand;
         life = lived.life;
         wrote = subst (λ o. tells o lived.did before (view sink)) is wrote;
         node = lived.node;
@@ -103,7 +104,7 @@ module _ {S E K F : Type 0} (clocked : Bool) (left : S → Option (List ℕ)) (s
       }
 
       abbrev Gave : List ℕ → LinePhases S E → Type 0
-      Gave dues mid = GivesEach (Said.line_steps clocked left source_faults took told_pieces errors_faults) bearers (config_of lived.over).elements lines dues lived.phases mid
+      Gave dues mid = GivesEach (Said.line_steps clocked left source_faults time took told_pieces errors_faults) bearers (config_of lived.over).elements lines dues lived.phases mid
 
       -- the source came to its end
       ended : (dues : List ℕ) (mid : LinePhases S E) → Gave dues mid
@@ -111,7 +112,7 @@ module _ {S E K F : Type 0} (clocked : Bool) (left : S → Option (List ℕ)) (s
           → (tells : Tells) → tells opened lived.did before (view sink)
           → LivedBy Stood role image report.hex bearers clocked start new from to before (view sink) closed at_end tells
       ended dues mid gave ends tells wrote =
-          let said = Said.said_all clocked left source_faults took told_pieces errors_faults bearers (config_of lived.over).elements [] lines mid dues lived.phases unused gave in
+          let said = Said.said_all clocked left source_faults time took told_pieces errors_faults bearers (config_of lived.over).elements [] lines mid dues lived.phases unused gave in
           let here = behind said.used mid in
           build at_end tells here (at lines') refl said.said
           (subst (λ e. Ends lines.lines.bearers e here (at lines')) said.elements
@@ -125,7 +126,7 @@ module _ {S E K F : Type 0} (clocked : Bool) (left : S → Option (List ℕ)) (s
           → ((m : LinesAt) → Fails lines.lines.bearers lines.lines.elements clocked why m (at lines') → goes lines.lines.bearers lines.lines.elements clocked m (at lines'))
           → LivedBy Stood role image report.hex bearers clocked start new from to before (view sink) closed goes tells
       gave_up dues mid gave why fails tells wrote goes is_so =
-          let said = Said.said_all clocked left source_faults took told_pieces errors_faults bearers (config_of lived.over).elements [] lines mid dues lived.phases unused gave in
+          let said = Said.said_all clocked left source_faults time took told_pieces errors_faults bearers (config_of lived.over).elements [] lines mid dues lived.phases unused gave in
           let here = behind said.used mid in
           build goes tells here (at lines') refl said.said
           (is_so here (subst (λ e. Fails lines.lines.bearers e clocked why here (at lines')) said.elements
@@ -137,7 +138,7 @@ module _ {S E K F : Type 0} (clocked : Bool) (left : S → Option (List ℕ)) (s
           → (goes : GoesOn) → ((m : LinesAt) → goes lines.lines.bearers lines.lines.elements clocked m m)
           → LivedBy Stood role image report.hex bearers clocked start new from to before (view sink) closed goes tells
       asked gave tells wrote goes is_so =
-          let said = Said.said_all clocked left source_faults took told_pieces errors_faults bearers (config_of lived.over).elements [] lines lines' lived.dues lived.phases unused gave in
+          let said = Said.said_all clocked left source_faults time took told_pieces errors_faults bearers (config_of lived.over).elements [] lines lines' lived.dues lived.phases unused gave in
           let here = behind said.used lines' in
           build goes tells here here refl said.said (is_so here) wrote
 
@@ -188,8 +189,8 @@ module _ {S E K F : Type 0} (clocked : Bool) (left : S → Option (List ℕ)) (s
 
     behind_failure : (lived : Lived T.Unread) → opened ≡ W.On (config_of lived.over).iv (config_of lived.over).mark → lines.lines.elements ≡ (config_of lived.over).elements → lines.lines.bearers ≡ bearers
         → Written (phases_lines report.hex lived.did) (view report.sink) (view sink)
-        → (dues : List ℕ) (mid : LinePhases S E) → GivesEach (Said.line_steps clocked left source_faults took told_pieces errors_faults) bearers (config_of lived.over).elements lines dues lived.phases mid
-        → (why : LineStop) → FailsAs clocked left source_faults took told_pieces errors_faults bearers (config_of lived.over).elements why mid lines' → Over (line_status why)
+        → (dues : List ℕ) (mid : LinePhases S E) → GivesEach (Said.line_steps clocked left source_faults time took told_pieces errors_faults) bearers (config_of lived.over).elements lines dues lived.phases mid
+        → (why : LineStop) → FailsAs clocked left source_faults time took told_pieces errors_faults bearers (config_of lived.over).elements why mid lines' → Over (line_status why)
     behind_failure lived is el many wrote dues mid gave L.Source fails =
         subst (λ b. Shown b (failed L.Source) (told_open report.hex)) lived.end
         (gave_up T.Unread lived is el many dues mid gave L.Source fails (told_open report.hex) (open_written lived.did (view sink) wrote) (failed L.Source) (λ m k. k))
@@ -201,7 +202,7 @@ module _ {S E K F : Type 0} (clocked : Bool) (left : S → Option (List ℕ)) (s
     behind_failure lived is el many wrote dues mid gave L.Endless fails =
         unfed lived (gave_up T.Unread lived is el many dues mid gave L.Endless fails (told_open report.hex) (open_written lived.did (view sink) wrote) unended (λ m k. (L.Endless, refl, k)))
     behind_failure lived is el many wrote dues mid gave L.OtherNode fails =
-        let said = Said.said_all clocked left source_faults took told_pieces errors_faults bearers (config_of lived.over).elements [] lines mid dues lived.phases unused gave in
+        let said = Said.said_all clocked left source_faults time took told_pieces errors_faults bearers (config_of lived.over).elements [] lines mid dues lived.phases unused gave in
         absurd ((fails said.used said.is).0 (sym (said.bearers ∙ many), sym (said.elements ∙ el)))
 
     behind_cut : (lived : Lived T.Cut) → opened ≡ W.On (config_of lived.over).iv (config_of lived.over).mark → lines.lines.elements ≡ (config_of lived.over).elements → lines.lines.bearers ≡ bearers
@@ -249,8 +250,8 @@ module _ {S E K F : Type 0} (clocked : Bool) (left : S → Option (List ℕ)) (s
         let (same, still) = up (λ e. cc) in
         let asked = lived.gave in
         let mid = asked.mid in
-        let said = Said.said_all clocked left source_faults took told_pieces errors_faults bearers (config_of lived.over).elements [] lines mid asked.before lived.phases unused asked.gave in
-        let (why, f) = subst (λ o. FailsBehind clocked left source_faults took told_pieces errors_faults bearers (config_of lived.over).elements o mid lines') (said.why ∙ unfailed_yet) asked.failed in
+        let said = Said.said_all clocked left source_faults time took told_pieces errors_faults bearers (config_of lived.over).elements [] lines mid asked.before lived.phases unused asked.gave in
+        let (why, f) = subst (λ o. FailsBehind clocked left source_faults time took told_pieces errors_faults bearers (config_of lived.over).elements o mid lines') (said.why ∙ unfailed_yet) asked.failed in
         subst Over (sym (same ∙ ap (λ o. status_behind T.Unread o report'.stopped) f.kept))
         (behind_failure lived is el many (subst (λ k. Written (phases_lines report.hex lived.did) (view report.sink) (view k)) (sym still) wrote.written) asked.before mid asked.gave why f.fails)
     over T.Cut lived is el many wrote failed_at status told up =
@@ -262,11 +263,11 @@ module _ {S E K F : Type 0} (clocked : Bool) (left : S → Option (List ℕ)) (s
         (behind_untold lived is el many (failed_at lived.did lived.took) still wrote.why wrote.stopped)
 
     -- where memory ran out
-    pub short : (fell : FellShort role IsDue (Said.line_steps clocked left source_faults took told_pieces errors_faults) sinks lines lines' report report' bearers start) → opened ≡ W.On (config_of fell.over).iv (config_of fell.over).mark
+    pub short : (fell : FellShort role IsDue (Said.line_steps clocked left source_faults time took told_pieces errors_faults) sinks lines lines' report report' bearers start) → opened ≡ W.On (config_of fell.over).iv (config_of fell.over).mark
         → lines.lines.elements ≡ (config_of fell.over).elements → lines.lines.bearers ≡ bearers → Written (phases_lines report.hex fell.did) (view report.sink) (view report'.sink)
         → LivedShort role report.hex bearers clocked start from to before (view report'.sink)
     short fell is elements many wrote =
-        let said = Said.said_all clocked left source_faults took told_pieces errors_faults bearers (config_of fell.over).elements [] lines lines' fell.dues (fell.phases ++ fell.in_hand) unused fell.gave in
+        let said = Said.said_all clocked left source_faults time took told_pieces errors_faults bearers (config_of fell.over).elements [] lines lines' fell.dues (fell.phases ++ fell.in_hand) unused fell.gave in
         let here = behind said.used lines' in
         record {
           over = fell.over;

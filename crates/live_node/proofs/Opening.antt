@@ -69,10 +69,10 @@ unopened_over role image hex bearers clocked start new from to before after Stoo
 unopened_over role image hex bearers clocked start new from to before after Stood u stop.Memory still = inl (refl, u, still refl)
 
 -- streams that have the same source, and the same sink for lines that are wrong
-pub same_streams : {A E K : Type 0} (left : A → Option (List ℕ)) (source_faults : A → ℕ) (held : E → Option (List ℕ)) (pieces : E → Option (List (List ℕ))) (sink_faults : E → ℕ) (old new : Streams A E K)
-    → new.source ≡ old.source → new.errors ≡ old.errors → streams_at left source_faults held pieces sink_faults new ≡ streams_at left source_faults held pieces sink_faults old
-same_streams {A = A} {E = E} left source_faults held pieces sink_faults old new source errors =
-    let at : A → E → StreamsAt = λ s e. record { left = left s; told = view_of held pieces e; source_faults = source_faults s; sink_faults = sink_faults e } in
+pub same_streams : {A E K : Type 0} (left : A → Option (List ℕ)) (source_faults : A → ℕ) (time : A → ℕ) (held : E → Option (List ℕ)) (pieces : E → Option (List (List ℕ))) (sink_faults : E → ℕ) (old new : Streams A E K)
+    → new.source ≡ old.source → new.errors ≡ old.errors → streams_at left source_faults time held pieces sink_faults new ≡ streams_at left source_faults time held pieces sink_faults old
+same_streams {A = A} {E = E} left source_faults time held pieces sink_faults old new source errors =
+    let at : A → E → StreamsAt = λ s e. record { left = left s; told = view_of held pieces e; source_faults = source_faults s; sink_faults = sink_faults e; time = time s } in
     ap₂ at source errors
 
 -- a front of the line that tells of a Node Reset

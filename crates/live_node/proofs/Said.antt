@@ -18,15 +18,15 @@ use Rattle.live_node.specs.Lived.{by_line}
 use Rattle.live_lines.specs.declared.lines.LineStop.{LineStop}
 use Rattle.live_lines.specs.declared.lines.LineStop.TheVariants as L
 
-module _ {S E : Type 0} (clocked : Bool) (left : S → Option (List ℕ)) (source_faults : S → ℕ) (took : E → Option (List ℕ)) (pieces : E → Option (List (List ℕ))) (sink_faults : E → ℕ) where
+module _ {S E : Type 0} (clocked : Bool) (left : S → Option (List ℕ)) (source_faults : S → ℕ) (time : S → ℕ) (took : E → Option (List ℕ)) (pieces : E → Option (List (List ℕ))) (sink_faults : E → ℕ) where
   abbrev pub at : LinePhases S E → LinesAt
-  at l = lines_at left source_faults took pieces sink_faults l.lines
+  at l = lines_at left source_faults time took pieces sink_faults l.lines
 
   abbrev pub behind : List ℕ → LinePhases S E → LinesAt
-  behind used l = lines_behind left source_faults took pieces sink_faults used l.lines
+  behind used l = lines_behind left source_faults time took pieces sink_faults used l.lines
 
   abbrev pub line_steps : SourceSteps (LinePhases S E)
-  line_steps = source_steps clocked left source_faults took pieces sink_faults
+  line_steps = source_steps clocked left source_faults time took pieces sink_faults
 
   -- phases that were given by lines and time, where these octets of a line were used before
   pub record Said (begun : List ℕ) (old : LinePhases S E) (phases : List (List (List Event))) (new : LinePhases S E) : Type 0 where
@@ -109,7 +109,10 @@ gives_faults bearers elements clocked lists old new h = elim h.gives [
       let same = gives.says.takes.same in
       then old gives.mid new (moves_faults bearers elements gives.moves old gives.mid gives.before)
       (record { source = ap (λ (at : LinesAt). at.source_faults) same; sink = ap (λ (at : LinesAt). at.sink_faults) same })
-  | inr time ↦ moves_faults bearers elements time.1.moves old new time.1.before
+  | inr time ↦
+      let same = time.1.tells.same in
+      then old time.1.mid new (moves_faults bearers elements time.1.moves old time.1.mid time.1.before)
+      (record { source = ap (λ (at : LinesAt). at.source_faults) same; sink = ap (λ (at : LinesAt). at.sink_faults) same })
 ]
 
 pub said_faults : (bearers elements : ℕ) (clocked : Bool) (phases : List (List (List Event))) (old new : LinesAt) → BySteps (by_line bearers elements clocked) old phases new → NoFault old new

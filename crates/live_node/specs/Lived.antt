@@ -8,6 +8,7 @@ use Rattle.mesh_types.specs.declared.report.End.TheVariants as E
 use Rattle.mesh_types.specs.declared.report.Opened.{Opened}
 use Rattle.mesh_types.specs.declared.report.Opened.TheVariants as W
 use Rattle.mesh_types.specs.declared.report.ReportLine.{ReportLine}
+use Rattle.life_laws.specs.Hands.{HoldsNext}
 use Rattle.life_laws.specs.Pairs.{IsFromMove}
 use Rattle.machine_contract.specs.Moved.{HasMoved}
 use Rattle.machine_contract.specs.Opening.{IsNodeFlash, IsUnwritten, MigratesOnly, found_of}
@@ -37,16 +38,17 @@ use Rattle.report_writer.specs.Writing.{SinkView, Written, WrittenFront, view_of
 use Rattle.live_node.specs.declared.status.Streams.{Streams}
 
 -- The streams of lines, before a life and after it: the octets that the source still gives and what the sink of wrong lines tells, where they are
--- told; and how many of their calls failed.
+-- told; how many of their calls failed; and how many ticks the source told.
 pub record StreamsAt : Type 0 where
   pub left : Option (List ℕ)
   pub told : SinkView
   pub source_faults : ℕ
   pub sink_faults : ℕ
+  pub time : ℕ
 
 abbrev pub streams_of : LinesAt → StreamsAt
 streams_of at =
-    record { left = at.left; told = at.told; source_faults = at.source_faults; sink_faults = at.sink_faults }
+    record { left = at.left; told = at.told; source_faults = at.source_faults; sink_faults = at.sink_faults; time = at.time }
 
 -- where lines begin: nothing was read yet
 abbrev pub begun : StreamsAt → LinesAt
@@ -57,15 +59,17 @@ begun at = record {
   told = at.told;
   source_faults = at.source_faults;
   sink_faults = at.sink_faults;
+  time = at.time;
 }
 
-abbrev pub streams_at : {S E K : Type 0} → (S → Option (List ℕ)) → (S → ℕ) → (E → Option (List ℕ)) → (E → Option (List (List ℕ)))
+abbrev pub streams_at : {S E K : Type 0} → (S → Option (List ℕ)) → (S → ℕ) → (S → ℕ) → (E → Option (List ℕ)) → (E → Option (List (List ℕ)))
     → (E → ℕ) → Streams S E K → StreamsAt
-streams_at left source_faults held pieces sink_faults streams = record {
+streams_at left source_faults time held pieces sink_faults streams = record {
   left = left streams.source;
   told = view_of held pieces streams.errors;
   source_faults = source_faults streams.source;
   sink_faults = sink_faults streams.errors;
+  time = time streams.source;
 }
 
 -- A phase that the next line is which says an event; where the source tells time, time that passed is one too.
@@ -177,6 +181,8 @@ module _ (Stood : Standing) (role : Role) (image : List ℕ → Type 0) (hex : B
     pub moved : closed ≡ false → HasMoved role over (entries_told did) refills drawn.advances
     -- no line draws a word, or tells the end of an IV Index, below where the counter had been moved to behind its entry (`moves` of `paid`)
     pub from_moves : All (All (IsFromMove (entries_told did) all.machine.moves)) (sends_told bearers did)
+    -- an event from outside that its machine has in hand comes behind all lines of its bearer's events before
+    pub hand : HoldsNext phases (entries_told did) (sends_told bearers did) all.machine
     -- without a phase nothing was written but what a migration of format 01 writes
     pub writes : phases ≡ [] → MigratesOnly start new
 

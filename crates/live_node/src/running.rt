@@ -139,9 +139,9 @@ fn go_on<
     ensures ended { (before : SinkView)
         → Written (opened_line 1 opened ∷ []) before (view_of K.held K.pieces report.sink)
         → EndsAs M.role M.image report.hex beginning.bearers S.clocked (F.chip beginning.start)
-        (streams_at S.left S.faults E.held E.pieces E.faults
+        (streams_at S.left S.faults S.time E.held E.pieces E.faults
         (record { source = lines.lines.source; errors = lines.lines.errors; sink = report.sink }))
-        (streams_at S.left S.faults E.held E.pieces E.faults result.streams) before
+        (streams_at S.left S.faults S.time E.held E.pieces E.faults result.streams) before
         (view_of K.held K.pieces result.streams.sink) F.chip (Stood M.view (M.stands (found_of (F.chip beginning.start))) F.chip) result.status
         result.closed result.flash }
     ensures sink { IsSinkCause result.status (K.faults report.sink) (K.faults result.streams.sink) }
@@ -195,8 +195,8 @@ fn run_started<
     requires writes { MigratesOnly (F.chip beginning.start) (F.chip beginning.flash) }
     requires few { beginning.bearers ≤ BEARERS }
     ensures ended { EndsAs M.role M.image hex beginning.bearers S.clocked (F.chip beginning.start)
-        (streams_at S.left S.faults E.held E.pieces E.faults streams)
-        (streams_at S.left S.faults E.held E.pieces E.faults result.streams)
+        (streams_at S.left S.faults S.time E.held E.pieces E.faults streams)
+        (streams_at S.left S.faults S.time E.held E.pieces E.faults result.streams)
         (view_of K.held K.pieces streams.sink) (view_of K.held K.pieces result.streams.sink) F.chip
         (Stood M.view (M.stands (found_of (F.chip beginning.start))) F.chip) result.status result.closed result.flash }
     ensures sink { IsSinkCause result.status (K.faults streams.sink) (K.faults result.streams.sink) }
@@ -265,8 +265,8 @@ fn run_machine<
     requires began { (F.chip over.flash).setting.faults ≤ (F.chip over.flash).faults }
     requires few { over.bearers ≤ BEARERS }
     ensures ended { EndsAs M.role M.image over.hex over.bearers S.clocked (F.chip over.flash)
-        (streams_at S.left S.faults E.held E.pieces E.faults over.streams)
-        (streams_at S.left S.faults E.held E.pieces E.faults result.streams)
+        (streams_at S.left S.faults S.time E.held E.pieces E.faults over.streams)
+        (streams_at S.left S.faults S.time E.held E.pieces E.faults result.streams)
         (view_of K.held K.pieces over.streams.sink) (view_of K.held K.pieces result.streams.sink) F.chip
         (Stood M.view (M.stands (found_of (F.chip over.flash))) F.chip) result.status result.closed result.flash }
     ensures sink { IsSinkCause result.status (K.faults over.streams.sink) (K.faults result.streams.sink) }
@@ -331,8 +331,8 @@ pub fn run_node<
 
     // What each status says of the life, of its lines and of what was written.
     ensures ended { EndsByStatus (node_role node_layers) IsNode hex bearers S.clocked (F.chip flash)
-        (streams_at S.left S.faults E.held E.pieces E.faults streams)
-        (streams_at S.left S.faults E.held E.pieces E.faults result.streams)
+        (streams_at S.left S.faults S.time E.held E.pieces E.faults streams)
+        (streams_at S.left S.faults S.time E.held E.pieces E.faults result.streams)
         (view_of K.held K.pieces streams.sink) (view_of K.held K.pieces result.streams.sink) F.chip
         (Stood shown (Stands (found_of (F.chip flash))) F.chip) result.status result.closed result.flash }
     ensures closed { IsClosedBy result.status result.closed }

@@ -141,12 +141,12 @@ impl<
         requires bearers { IsBearers ways.bearers }
         ensures done { OnOk result.answer
             (IsDone (⟦<NodeFlash as Flash>⟧.chip) (H.opens self.entry.files.now) (H.makes self.entry.files.now) S.clocked
-            (streams_at S.left S.faults E.held E.pieces E.faults self.entry.streams)
+            (streams_at S.left S.faults S.time E.held E.pieces E.faults self.entry.streams)
             (back_at S.left S.faults E.held E.pieces E.faults result.source result.errors)
             (view_of K.held K.pieces self.entry.streams.sink) (view_of K.held K.pieces result.sink) (Command.Run ways) file.now) }
         ensures failed { IfErr result.answer
             (IsFailed (⟦<NodeFlash as Flash>⟧.chip) (H.opens self.entry.files.now) (H.refuses self.entry.files.now)
-            (H.unmakes self.entry.files.now) S.clocked (streams_at S.left S.faults E.held E.pieces E.faults self.entry.streams)
+            (H.unmakes self.entry.files.now) S.clocked (streams_at S.left S.faults S.time E.held E.pieces E.faults self.entry.streams)
             (back_at S.left S.faults E.held E.pieces E.faults result.source result.errors)
             (view_of K.held K.pieces self.entry.streams.sink) (view_of K.held K.pieces result.sink) (Command.Run ways) file.now) }
         ensures source_cause { IfSome result.source
@@ -190,12 +190,12 @@ impl<
         requires numbers { HasNumbers command }
         ensures done { OnOk result.answer
             (IsDone (⟦<NodeFlash as Flash>⟧.chip) (H.opens self.entry.files.now) (H.makes self.entry.files.now) S.clocked
-            (streams_at S.left S.faults E.held E.pieces E.faults self.entry.streams)
+            (streams_at S.left S.faults S.time E.held E.pieces E.faults self.entry.streams)
             (back_at S.left S.faults E.held E.pieces E.faults result.source result.errors)
             (view_of K.held K.pieces self.entry.streams.sink) (view_of K.held K.pieces result.sink) command file.now) }
         ensures failed { IfErr result.answer
             (IsFailed (⟦<NodeFlash as Flash>⟧.chip) (H.opens self.entry.files.now) (H.refuses self.entry.files.now)
-            (H.unmakes self.entry.files.now) S.clocked (streams_at S.left S.faults E.held E.pieces E.faults self.entry.streams)
+            (H.unmakes self.entry.files.now) S.clocked (streams_at S.left S.faults S.time E.held E.pieces E.faults self.entry.streams)
             (back_at S.left S.faults E.held E.pieces E.faults result.source result.errors)
             (view_of K.held K.pieces self.entry.streams.sink) (view_of K.held K.pieces result.sink) command file.now) }
         ensures source_cause { IfSome result.source
@@ -242,12 +242,12 @@ impl<
     fn run_words(self, words: &[&str]) -> Answered<S, E, K>
         ensures done { OnOk result.answer
             (IsDoneBy (⟦<NodeFlash as Flash>⟧.chip) (H.opens self.entry.files.now) (H.makes self.entry.files.now) S.clocked
-            (streams_at S.left S.faults E.held E.pieces E.faults self.entry.streams)
+            (streams_at S.left S.faults S.time E.held E.pieces E.faults self.entry.streams)
             (back_at S.left S.faults E.held E.pieces E.faults result.source result.errors)
             (view_of K.held K.pieces self.entry.streams.sink) (view_of K.held K.pieces result.sink) (map (λ w. w.now) words.now)) }
         ensures failed { IfErr result.answer
             (IsFailedBy (⟦<NodeFlash as Flash>⟧.chip) (H.opens self.entry.files.now) (H.refuses self.entry.files.now)
-            (H.unmakes self.entry.files.now) S.clocked (streams_at S.left S.faults E.held E.pieces E.faults self.entry.streams)
+            (H.unmakes self.entry.files.now) S.clocked (streams_at S.left S.faults S.time E.held E.pieces E.faults self.entry.streams)
             (back_at S.left S.faults E.held E.pieces E.faults result.source result.errors)
             (view_of K.held K.pieces self.entry.streams.sink) (view_of K.held K.pieces result.sink) (map (λ w. w.now) words.now)) }
         ensures source_cause { IfSome result.source
@@ -268,12 +268,12 @@ impl<
     fn run_given(self, arguments: &[String]) -> Answered<S, E, K>
         ensures done { OnOk result.answer
             (IsDoneBy (⟦<NodeFlash as Flash>⟧.chip) (H.opens self.entry.files.now) (H.makes self.entry.files.now) S.clocked
-            (streams_at S.left S.faults E.held E.pieces E.faults self.entry.streams)
+            (streams_at S.left S.faults S.time E.held E.pieces E.faults self.entry.streams)
             (back_at S.left S.faults E.held E.pieces E.faults result.source result.errors)
             (view_of K.held K.pieces self.entry.streams.sink) (view_of K.held K.pieces result.sink) (map (λ a. string_bytes a) arguments.now)) }
         ensures failed { IfErr result.answer
             (IsFailedBy (⟦<NodeFlash as Flash>⟧.chip) (H.opens self.entry.files.now) (H.refuses self.entry.files.now)
-            (H.unmakes self.entry.files.now) S.clocked (streams_at S.left S.faults E.held E.pieces E.faults self.entry.streams)
+            (H.unmakes self.entry.files.now) S.clocked (streams_at S.left S.faults S.time E.held E.pieces E.faults self.entry.streams)
             (back_at S.left S.faults E.held E.pieces E.faults result.source result.errors)
             (view_of K.held K.pieces self.entry.streams.sink) (view_of K.held K.pieces result.sink) (map (λ a. string_bytes a) arguments.now)) }
         ensures source_cause { IfSome result.source
@@ -294,13 +294,13 @@ impl<
         ensures done { OnOk result.answer
             ((words : List (List ℕ))
             × IsDoneBy (⟦<NodeFlash as Flash>⟧.chip) (H.opens self.entry.files.now) (H.makes self.entry.files.now) S.clocked
-            (streams_at S.left S.faults E.held E.pieces E.faults self.entry.streams)
+            (streams_at S.left S.faults S.time E.held E.pieces E.faults self.entry.streams)
             (back_at S.left S.faults E.held E.pieces E.faults result.source result.errors)
             (view_of K.held K.pieces self.entry.streams.sink) (view_of K.held K.pieces result.sink) words) }
         ensures failed { IfErr result.answer
             (λ failure. (words : List (List ℕ))
             × IsFailedBy (⟦<NodeFlash as Flash>⟧.chip) (H.opens self.entry.files.now) (H.refuses self.entry.files.now)
-            (H.unmakes self.entry.files.now) S.clocked (streams_at S.left S.faults E.held E.pieces E.faults self.entry.streams)
+            (H.unmakes self.entry.files.now) S.clocked (streams_at S.left S.faults S.time E.held E.pieces E.faults self.entry.streams)
             (back_at S.left S.faults E.held E.pieces E.faults result.source result.errors)
             (view_of K.held K.pieces self.entry.streams.sink) (view_of K.held K.pieces result.sink) words failure) }
         ensures source_cause { IfSome result.source

@@ -66,13 +66,13 @@ pub fn run<
     requires bearers { IsBearers ways.bearers }
     ensures done { OnOk result.answer
         (HasRun (⟦<NodeFlash as Flash>⟧.chip) (H.opens files.now file.now) ways.hex ways.bearers S.clocked
-        (streams_at S.left S.faults E.held E.pieces E.faults streams)
-        (streams_at S.left S.faults E.held E.pieces E.faults result.streams)
+        (streams_at S.left S.faults S.time E.held E.pieces E.faults streams)
+        (streams_at S.left S.faults S.time E.held E.pieces E.faults result.streams)
         (view_of K.held K.pieces streams.sink) (view_of K.held K.pieces result.streams.sink)) }
     ensures failed { IfErr result.answer
         (IsNotRun (⟦<NodeFlash as Flash>⟧.chip) (H.opens files.now file.now) ways.hex ways.bearers S.clocked
-        (streams_at S.left S.faults E.held E.pieces E.faults streams)
-        (streams_at S.left S.faults E.held E.pieces E.faults result.streams)
+        (streams_at S.left S.faults S.time E.held E.pieces E.faults streams)
+        (streams_at S.left S.faults S.time E.held E.pieces E.faults result.streams)
         (view_of K.held K.pieces streams.sink) (view_of K.held K.pieces result.streams.sink)
         (H.refuses files.now file.now)) }
     ensures source_cause { IsAnswerBy IsSourceFailure result.answer (S.faults streams.source) (S.faults result.streams.source) }

@@ -30,10 +30,10 @@ returns-in-Ok-clause-ended g c before first =
     let same = c.one_list_is_recovered.ensures.one_list (chip c.args.beginning.start).now lives.over s.over lives.recovered s.read in
     let life = c.tells.ensures.known (found_of (chip c.args.beginning.start)) c.args.beginning.flash s.over c.args.beginning.started.machine s.tie in
     rw c.streams_of.ensures.value
-    (over g.S.ClockedSource.clocked g.S.Source.left g.S.Source.faults g.E.Sink.held g.E.Sink.pieces g.E.Sink.faults g.K.Sink.held g.K.Sink.pieces g.K.Sink.faults
+    (over g.S.ClockedSource.clocked g.S.Source.left g.S.Source.faults g.S.ClockedSource.time g.E.Sink.held g.E.Sink.pieces g.E.Sink.faults g.K.Sink.held g.K.Sink.pieces g.K.Sink.faults
     (Stood g.M.Machine.view (g.M.Machine.stands (found_of (chip c.args.beginning.start))) chip lived.flash) g.M.Machine.role g.M.Machine.image _ _ c.args.beginning.bearers (chip c.args.beginning.start) (chip lived.flash) c.args.beginning.flash lived.flash
     lines c.live_on-lived.new.source c.args.report c.live_on-lived.new.sink c.end_status-status.new.report.sink lived.refills lived.drawn lived.closed
-    (streams_at g.S.Source.left g.S.Source.faults g.E.Sink.held g.E.Sink.pieces g.E.Sink.faults (record { source = lines.lines.source; errors = lines.lines.errors; sink = c.args.report.sink }))
+    (streams_at g.S.Source.left g.S.Source.faults g.S.ClockedSource.time g.E.Sink.held g.E.Sink.pieces g.E.Sink.faults (record { source = lines.lines.source; errors = lines.lines.errors; sink = c.args.report.sink }))
     before c.args.opened c.life_law.ensures.whole first
     (ap₂ (λ h n. record {
       left = g.S.Source.left lines.lines.source;
@@ -42,6 +42,7 @@ returns-in-Ok-clause-ended g c before first =
       told = view_of g.E.Sink.held g.E.Sink.pieces lines.lines.errors;
       source_faults = g.S.Source.faults lines.lines.source;
       sink_faults = g.E.Sink.faults lines.lines.errors;
+      time = g.S.ClockedSource.time lines.lines.source;
     }) begins.held begins.number) begins.why (All-nil (λ b. b ≡ 10 → ⊥), begins.front)
     (λ same. subst (λ f. MigratesOnly (chip c.args.beginning.start) (chip f)) (sym same) c.requires.writes)
     lived.last lives (opens lives.over s.over c.args.opened c.args.beginning.started.state c.args.beginning.started.mark same c.requires.opened s.state s.mark)
@@ -69,10 +70,10 @@ returns-in-Err-clause-ended g c before first =
     let same = c.one_list_is_recovered.ensures.one_list (chip c.args.beginning.start).now fell.over s.over fell.recovered s.read in
     let life = c.tells.ensures.known (found_of (chip c.args.beginning.start)) c.args.beginning.flash s.over c.args.beginning.started.machine s.tie in
     rw c.streams_of-in-Err.ensures.value
-    (short g.S.ClockedSource.clocked g.S.Source.left g.S.Source.faults g.E.Sink.held g.E.Sink.pieces g.E.Sink.faults g.K.Sink.held g.K.Sink.pieces g.K.Sink.faults
+    (short g.S.ClockedSource.clocked g.S.Source.left g.S.Source.faults g.S.ClockedSource.time g.E.Sink.held g.E.Sink.pieces g.E.Sink.faults g.K.Sink.held g.K.Sink.pieces g.K.Sink.faults
     (λ _ _. ⊤) g.M.Machine.role g.M.Machine.image _ _ c.args.beginning.bearers (chip c.args.beginning.start) (chip c.args.beginning.flash) c.args.beginning.flash c.args.beginning.flash
     lines c.live_on-lived.new.source c.args.report c.live_on-lived.new.sink c.live_on-lived.new.sink.sink 0 (record { next = 0; mark = 0; drawn = []; looks = []; advances = [] }) Rattle.std.proofs.Common.false
-    (streams_at g.S.Source.left g.S.Source.faults g.E.Sink.held g.E.Sink.pieces g.E.Sink.faults (record { source = lines.lines.source; errors = lines.lines.errors; sink = c.args.report.sink }))
+    (streams_at g.S.Source.left g.S.Source.faults g.S.ClockedSource.time g.E.Sink.held g.E.Sink.pieces g.E.Sink.faults (record { source = lines.lines.source; errors = lines.lines.errors; sink = c.args.report.sink }))
     before c.args.opened c.life_law.ensures.whole first
     (ap₂ (λ h n. record {
       left = g.S.Source.left lines.lines.source;
@@ -81,6 +82,7 @@ returns-in-Err-clause-ended g c before first =
       told = view_of g.E.Sink.held g.E.Sink.pieces lines.lines.errors;
       source_faults = g.S.Source.faults lines.lines.source;
       sink_faults = g.E.Sink.faults lines.lines.errors;
+      time = g.S.ClockedSource.time lines.lines.source;
     }) begins.held begins.number) begins.why (All-nil (λ b. b ≡ 10 → ⊥), begins.front) (λ same. c.requires.writes)
     fell (opens fell.over s.over c.args.opened c.args.beginning.started.state c.args.beginning.started.mark same c.requires.opened s.state s.mark)
     (begins.elements_are ∙ life.elements ∙ ap (λ o. (config_of o).elements) (sym same)) begins.bearers_are

@@ -20,7 +20,7 @@ returns-in-Err-WasReset-clause-ended g c =
     let over = c.args.over in
     let flash = c.start.new.flash in
     let told = c.tell_reset.result in
-    let at = streams_at g.S.Source.left g.S.Source.faults g.E.Sink.held g.E.Sink.pieces g.E.Sink.faults in
+    let at = streams_at g.S.Source.left g.S.Source.faults g.S.ClockedSource.time g.E.Sink.held g.E.Sink.pieces g.E.Sink.faults in
     let view = view_of g.K.Sink.held g.K.Sink.pieces in
     let cause = subst (IsStartCause g.M.Machine.image (chip over.flash) (chip flash)) c.in-Err-WasReset.field-0-is c.in-Err-WasReset.ensures.cause in
     let rest = c.tell_reset.ensures.rest in
@@ -28,5 +28,5 @@ returns-in-Err-WasReset-clause-ended g c =
     rw rest.1 (rw rest.0
     (reset_over g.M.Machine.role g.M.Machine.image over.hex over.bearers g.S.ClockedSource.clocked (chip over.flash) (chip flash) (at over.streams) (at told.streams) (view over.streams.sink) (view told.streams.sink)
     (Stood g.M.Machine.view (g.M.Machine.stands (found_of (chip over.flash))) chip flash) cause.0 c.start.ensures.frame cause.2 cause.1 (c.start.ensures.reset cause.0) c.start.ensures.writes
-    (same_streams g.S.Source.left g.S.Source.faults g.E.Sink.held g.E.Sink.pieces g.E.Sink.faults over.streams told.streams streams.0 streams.1)
+    (same_streams g.S.Source.left g.S.Source.faults g.S.ClockedSource.time g.E.Sink.held g.E.Sink.pieces g.E.Sink.faults over.streams told.streams streams.0 streams.1)
     told.status (g.K.Sink.faults over.streams.sink) (g.K.Sink.faults told.streams.sink) c.tell_reset.ensures.told))

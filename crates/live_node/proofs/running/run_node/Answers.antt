@@ -18,8 +18,8 @@ pub returns : goal.returns
 returns g c =
     let chip = g.F.Flash.chip in
     let r = c.run_machine.result in
-    let from = streams_at g.S.Source.left g.S.Source.faults g.E.Sink.held g.E.Sink.pieces g.E.Sink.faults c.args.streams in
-    let to = streams_at g.S.Source.left g.S.Source.faults g.E.Sink.held g.E.Sink.pieces g.E.Sink.faults r.streams in
+    let from = streams_at g.S.Source.left g.S.Source.faults g.S.ClockedSource.time g.E.Sink.held g.E.Sink.pieces g.E.Sink.faults c.args.streams in
+    let to = streams_at g.S.Source.left g.S.Source.faults g.S.ClockedSource.time g.E.Sink.held g.E.Sink.pieces g.E.Sink.faults r.streams in
     let before = view_of g.K.Sink.held g.K.Sink.pieces c.args.streams.sink in
     let after = view_of g.K.Sink.held g.K.Sink.pieces r.streams.sink in
     let ended = c.run_machine.ensures.ended in

@@ -13,7 +13,7 @@ loop-move-init g c = record {
 
 pub loop-move-preserved : goal.loop-move-preserved
 loop-move-preserved g c =
-    let at = lines_behind g.S.Source.left g.S.Source.faults g.E.Sink.held g.E.Sink.pieces g.E.Sink.faults in
+    let at = lines_behind g.S.Source.left g.S.Source.faults g.S.ClockedSource.time g.E.Sink.held g.E.Sink.pieces g.E.Sink.faults in
     let clocked = g.S.ClockedSource.clocked in
     let first = c.args.self.now.lines in
     let mid = c.loop-move.self.lines in
@@ -31,7 +31,7 @@ loop-move-preserved g c =
 
 pub returns-in-Ok-Comes-clause-ok : goal.returns-in-Ok-Comes-clause-ok
 returns-in-Ok-Comes-clause-ok g c = λ used is.
-    let at = lines_behind g.S.Source.left g.S.Source.faults g.E.Sink.held g.E.Sink.pieces g.E.Sink.faults in
+    let at = lines_behind g.S.Source.left g.S.Source.faults g.S.ClockedSource.time g.E.Sink.held g.E.Sink.pieces g.E.Sink.faults in
     let clocked = g.S.ClockedSource.clocked in
     let first = c.args.self.now.lines in
     let mid = c.loop-move.self.lines in
@@ -45,7 +45,7 @@ returns-in-Ok-Comes-clause-ok g c = λ used is.
 
 pub returns-in-Ok-Ended-clause-ok : goal.returns-in-Ok-Ended-clause-ok
 returns-in-Ok-Ended-clause-ok g c = λ used is.
-    let at = lines_behind g.S.Source.left g.S.Source.faults g.E.Sink.held g.E.Sink.pieces g.E.Sink.faults in
+    let at = lines_behind g.S.Source.left g.S.Source.faults g.S.ClockedSource.time g.E.Sink.held g.E.Sink.pieces g.E.Sink.faults in
     let clocked = g.S.ClockedSource.clocked in
     let first = c.args.self.now.lines in
     let mid = c.loop-move.self.lines in

@@ -10,6 +10,6 @@ invariant-loop-move g l = record {
   same : IsSameNode l.fn.self.lines l.self.lines;
   moved : (used : List ℕ) → IsFrontOf l.fn.self.front used
       → HasMoved l.fn.self.lines.bearers l.fn.self.lines.elements l._move l.self.front
-      (lines_behind g.S.Source.left g.S.Source.faults g.E.Sink.held g.E.Sink.pieces g.E.Sink.faults used l.fn.self.lines)
-      (λ now. lines_behind g.S.Source.left g.S.Source.faults g.E.Sink.held g.E.Sink.pieces g.E.Sink.faults now l.self.lines);
+      (lines_behind g.S.Source.left g.S.Source.faults g.S.ClockedSource.time g.E.Sink.held g.E.Sink.pieces g.E.Sink.faults used l.fn.self.lines)
+      (λ now. lines_behind g.S.Source.left g.S.Source.faults g.S.ClockedSource.time g.E.Sink.held g.E.Sink.pieces g.E.Sink.faults now l.self.lines);
 }

@@ -25,7 +25,7 @@ returns-in-Ok-clause-ok g c = λ used is.
 
 pub returns-in-Ok-Some-clause-stop : goal.returns-in-Ok-Some-clause-stop
 returns-in-Ok-Some-clause-stop g c = λ used is.
-    let at = lines_behind g.S.Source.left g.S.Source.faults g.E.Sink.held g.E.Sink.pieces g.E.Sink.faults in
+    let at = lines_behind g.S.Source.left g.S.Source.faults g.S.ClockedSource.time g.E.Sink.held g.E.Sink.pieces g.E.Sink.faults in
     let lines = c.args.self.now.lines in
     let new = c.next_line.new.self.lines in
     let came = rw c.in-Ok-Some.field-0-is at (c.in-Ok-Some.ensures.ok used is) in

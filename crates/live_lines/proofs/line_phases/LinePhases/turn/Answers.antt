@@ -24,7 +24,7 @@ returns-in-Err-clause-rounds g c = record {
   stop = λ used n is.
       let lines = c.args.self.now.lines in
       fails_at lines.bearers lines.elements g.S.ClockedSource.clocked c.in-Err.why n
-      (lines_behind g.S.Source.left g.S.Source.faults g.E.Sink.held g.E.Sink.pieces g.E.Sink.faults used lines)
-      (lines_at g.S.Source.left g.S.Source.faults g.E.Sink.held g.E.Sink.pieces g.E.Sink.faults c.turn.new.self)
+      (lines_behind g.S.Source.left g.S.Source.faults g.S.ClockedSource.time g.E.Sink.held g.E.Sink.pieces g.E.Sink.faults used lines)
+      (lines_at g.S.Source.left g.S.Source.faults g.S.ClockedSource.time g.E.Sink.held g.E.Sink.pieces g.E.Sink.faults c.turn.new.self)
       (c.in-Err.ensures.turns.stop used n is);
 }

@@ -19,8 +19,8 @@ returns-in-Err-tell_rest-clause-turns g c = record {
       let front : IsFrontOf c.as_slice.result.now used = (is.0, c.as_slice.ensures.value ∙ is.1) in
       let zero : c.in-Ok-eq0.field-0 ≡ 0 = omega (arith, c.in-Ok-eq0.field-0-test) in
       let none : c.fill.new.self ≡ [] = empty c.fill.new.self (omega (arith, c.in-Ok-eq0.ensures.count)) in
-      rw (c.in-Err-tell_rest.ensures.frame, none, c.requires.none)
-      (fails_at_end self.bearers self.elements self.number (g.S.Source.left self.source) used c.as_slice.result.now (g.S.Source.faults self.source) (g.E.Sink.faults self.errors)
+      rw (c.in-Err-tell_rest.ensures.frame, none, c.requires.none, c.in-Ok-eq0.ensures.untimed)
+      (fails_at_end self.bearers self.elements self.number (g.S.Source.left self.source) used c.as_slice.result.now (g.S.Source.faults self.source) (g.E.Sink.faults self.errors) (g.S.ClockedSource.time self.source)
       (view self.errors) front c.in-Err-tell_rest.why n (g.S.Source.left c.fill.new.source) (view next.errors) (g.S.Source.faults c.fill.new.source) (g.E.Sink.faults next.errors)
       (rw none at c.in-Ok-eq0.ensures.octets) (c.in-Ok-eq0.ensures.at_end zero) c.in-Ok-eq0.ensures.no_fault c.in-Err-tell_rest.ensures.some c.in-Err-tell_rest.ensures.stop);
 }
@@ -34,8 +34,8 @@ returns-in-Ok-clause-turns g c = record {
         is,
         (
           reads c.fill.new.self,
-          rw c.requires.none
-              (reads_on self.bearers self.elements self.number (g.S.Source.left self.source) used c.args.front.now (g.S.Source.faults self.source) (g.E.Sink.faults self.errors)
+          rw (c.requires.none, c.in-Ok.ensures.untimed)
+              (reads_on self.bearers self.elements self.number (g.S.Source.left self.source) used c.args.front.now (g.S.Source.faults self.source) (g.E.Sink.faults self.errors) (g.S.ClockedSource.time self.source)
               (view self.errors) is (g.S.Source.left c.fill.new.source) c.fill.new.self (g.S.Source.faults c.fill.new.source)
               (omega (arith, c.in-Ok.ensures.count, c.in-Ok.field-0-test.1)) c.in-Ok.ensures.octets c.in-Ok.ensures.no_fault),
         ),

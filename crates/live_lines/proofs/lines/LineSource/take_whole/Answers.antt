@@ -12,11 +12,11 @@ returns-in-Ok-Some-clause-ok g c = λ raw is.
     let self = c.args.self.now in
     let next = c.take-taken.new.self in
     let view = view_of g.E.Sink.held g.E.Sink.pieces in
-    let at = lines_behind g.S.Source.left g.S.Source.faults g.E.Sink.held g.E.Sink.pieces g.E.Sink.faults in
+    let at = lines_behind g.S.Source.left g.S.Source.faults g.S.ClockedSource.time g.E.Sink.held g.E.Sink.pieces g.E.Sink.faults in
     let front : IsFrontOf c.as_slice.result.now raw = (is.0, c.as_slice.ensures.value ∙ is.1) in
     let taken = rw c.in-Ok-Some.field-0-is at c.in-Ok-Some.ensures.ok in (
       rw c.in-Ok-Some.ensures.frame (gives self.bearers self.elements self.number (g.S.Source.left self.source) self.held raw c.as_slice.result.now (g.S.Source.faults self.source)
-          (g.E.Sink.faults self.errors) (view self.errors) front c.in-Ok-Some.line (view next.errors) (g.E.Sink.faults next.errors)
+          (g.E.Sink.faults self.errors) (g.S.ClockedSource.time self.source) (view self.errors) front c.in-Ok-Some.line (view next.errors) (g.E.Sink.faults next.errors)
           c.in-Ok-Some.ensures.no_fault taken),
       rw c.in-Ok-Some.field-0-is at c.in-Ok-Some.ensures.ranges,
       c.new.ensures.value,
@@ -34,7 +34,7 @@ returns-in-Ok-None-clause-ok g c = λ raw is.
       (
         passes raw,
         rw c.in-Ok-None.ensures.frame (passes_over self.bearers self.elements self.number (g.S.Source.left self.source) self.held raw c.as_slice.result.now (g.S.Source.faults self.source)
-            (g.E.Sink.faults self.errors) (view self.errors) front (view next.errors) (g.E.Sink.faults next.errors) c.in-Ok-None.ensures.no_fault taken),
+            (g.E.Sink.faults self.errors) (g.S.ClockedSource.time self.source) (view self.errors) front (view next.errors) (g.E.Sink.faults next.errors) c.in-Ok-None.ensures.no_fault taken),
       ),
     )
 
@@ -45,4 +45,4 @@ returns-in-Err-clause-stop g c = λ raw n is.
     let view = view_of g.E.Sink.held g.E.Sink.pieces in
     let front : IsFrontOf c.as_slice.result.now raw = (is.0, c.as_slice.ensures.value ∙ is.1) in
     rw c.in-Err.ensures.frame (loses self.bearers self.elements self.number (g.S.Source.left self.source) self.held raw c.as_slice.result.now (g.S.Source.faults self.source)
-    (g.E.Sink.faults self.errors) (view self.errors) front c.in-Err.why n (view next.errors) (g.E.Sink.faults next.errors) c.in-Err.ensures.stop)
+    (g.E.Sink.faults self.errors) (g.S.ClockedSource.time self.source) (view self.errors) front c.in-Err.why n (view next.errors) (g.E.Sink.faults next.errors) c.in-Err.ensures.stop)

@@ -24,7 +24,7 @@ returns-in-Ok-clause-events g c =
 
 pub returns-in-Ok-clause-gives : goal.returns-in-Ok-clause-gives
 returns-in-Ok-clause-gives g c =
-    let at = lines_behind g.S.Source.left g.S.Source.faults g.E.Sink.held g.E.Sink.pieces g.E.Sink.faults in
+    let at = lines_behind g.S.Source.left g.S.Source.faults g.S.ClockedSource.time g.E.Sink.held g.E.Sink.pieces g.E.Sink.faults in
     let old = c.args.self.now in
     let new = c.next_phase.new.self in
     let none : old.lines.why ≡ None = none_of old.lines.why (sym c.is_some.ensures ∙ c.if-is_some.false) in
@@ -36,9 +36,9 @@ returns-in-Err-clause-fails g c =
     let old = c.args.self.now in
     let none : old.lines.why ≡ None = none_of old.lines.why (sym c.is_some.ensures ∙ c.if-is_some.false) in
     let frame = c.in-Err.ensures.frame in
-    fails_now g.S.ClockedSource.clocked g.S.Source.left g.S.Source.faults g.E.Sink.held g.E.Sink.pieces g.E.Sink.faults c.args.bearers c.args.elements old _ none c.in-Err.why
+    fails_now g.S.ClockedSource.clocked g.S.Source.left g.S.Source.faults g.S.ClockedSource.time g.E.Sink.held g.E.Sink.pieces g.E.Sink.faults c.args.bearers c.args.elements old _ none c.in-Err.why
     (record {
       kept = refl;
       node = (frame.1, frame.2);
-      fails = λ used is. fails_from g.S.ClockedSource.clocked g.S.Source.left g.S.Source.faults g.E.Sink.held g.E.Sink.pieces g.E.Sink.faults c.args.bearers c.args.elements old _ c.in-Err.why used (c.in-Err.ensures.stop used is);
+      fails = λ used is. fails_from g.S.ClockedSource.clocked g.S.Source.left g.S.Source.faults g.S.ClockedSource.time g.E.Sink.held g.E.Sink.pieces g.E.Sink.faults c.args.bearers c.args.elements old _ c.in-Err.why used (c.in-Err.ensures.stop used is);
     })
