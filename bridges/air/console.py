@@ -2,18 +2,19 @@
 import os
 import sys
 from dataclasses import dataclass
-
-from .process import LiveNode
+from typing import TextIO
 
 
 @dataclass
 class Console:
-    """Reads lines for the node; tells its report, and on standard error the lines that it didn't take."""
-    node: LiveNode
+    """Reads lines for the node."""
     is_open: bool = True
     _rest: bytes = b''
-    _told: int = 0
-    _wrong: int = 0
+
+    @property
+    def reads(self) -> list[TextIO]:
+        """What to wait for until it can be read."""
+        return [sys.stdin] if self.is_open else []
 
     def read(self) -> list[str]:
         """The lines that came, once standard input has something. A last line without its end isn't one, as for the node."""
@@ -21,11 +22,3 @@ class Console:
         self.is_open = bool(more)
         *lines, self._rest = (self._rest + more).split(b'\n')
         return [line.decode('ascii', 'replace') for line in lines if line]
-
-    def tell(self) -> None:
-        """Prints what is new."""
-        for line in self.node.report[self._told:]:
-            print(line, flush=True)
-        for line in self.node.wrong[self._wrong:]:
-            print(line, file=sys.stderr, flush=True)
-        self._told, self._wrong = len(self.node.report), len(self.node.wrong)

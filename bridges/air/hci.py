@@ -110,8 +110,17 @@ class Advertiser:
         """Puts it behind what waits."""
         self._queue.append(sent)
 
-    def step(self, now: float | None = None) -> list[OnAir]:
-        """Goes on with what waits; answers what was heard."""
+    def fileno(self) -> int:
+        """For select."""
+        return self.socket.fileno()
+
+    @property
+    def waiting(self) -> int:
+        """How many are still to be sent, and one more while one is advertised."""
+        return len(self._queue) + (self._until > 0)
+
+    def flush(self, now: float | None = None) -> None:
+        """Goes on with what waits."""
         now = time.monotonic() if now is None else now
         if self._until and now >= self._until:
             self.socket.send(STOP)
@@ -121,9 +130,9 @@ class Advertiser:
                 self.socket.send(packet)
             # an event is delayed by up to 10 ms more
             self._until = now + self.copies * (EVENT_MS + 10) / 1000
-        return self._heard()
 
-    def _heard(self) -> list[OnAir]:
+    def heard(self) -> list[OnAir]:
+        """What was heard since this was last asked."""
         found = []
         while True:
             try:

@@ -40,9 +40,9 @@ class UnitSocket:
         return self._socket.fileno()
 
     @property
-    def is_waiting(self) -> bool:
-        """Whether something waits for the daemon."""
-        return bool(self._queue)
+    def waiting(self) -> int:
+        """How many wait for the daemon."""
+        return len(self._queue)
 
     def heard(self) -> list[OnAir]:
         """What the daemon sent since this was last asked: network PDUs and Secure Network beacons."""

@@ -100,6 +100,21 @@ class Unit(unittest.TestCase):
         self.assertEqual((ended.stdout.splitlines()[-1], ended.stderr), ('end', ''))
 
     @takes_programs
+    def test_the_command_hands_on_what_is_heard_while_its_input_is_open(self) -> None:
+        init(MESHNODED, self.folder / 'node', Identity(0x1201, NET_KEY, '00' * 16, IV))
+        daemon = Daemon(self.folder / 'unit')
+        self.addCleanup(daemon.socket.close)
+        with subprocess.Popen([sys.executable, '-B', BRIDGES / 'unit', MESHNODED, self.folder / 'node', self.folder / 'unit'], stdin=subprocess.PIPE,
+                              stdout=subprocess.PIPE, stderr=subprocess.PIPE, text=True) as running:
+            assert running.stdin and running.stdout and running.stderr
+            self.assertTrue(running.stdout.readline().startswith('life 1 '))
+            daemon.send(0x2a, seal_network(k2(bytes.fromhex(NET_KEY)), IV, NetworkPdu(1, 3, 1, 3, 0x1201, b'\x0a\0\0\0')))
+            # time may be told before it
+            self.assertTrue(any(' control ' in line for line in iter(running.stdout.readline, '')))
+            running.stdin.close()
+            self.assertEqual((running.stdout.read().splitlines()[-1], running.stderr.read(), running.wait(60)), ('end', '', 0))
+
+    @takes_programs
     def test_a_node_hears_and_is_heard(self) -> None:
         init(MESHNODED, self.folder / 'node', Identity(0x1201, NET_KEY, '00' * 16, IV))
         over = bridge(MESHNODED, self.folder / 'node', self.folder / 'unit', io.StringIO())
