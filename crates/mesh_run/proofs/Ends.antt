@@ -3,7 +3,7 @@ use Rattle.std.proofs.Common.{◌≡◌, ◌⊎◌, ◌<◌, ◌≤◌, ◌+◌,
 use Rattle.std.specs.Prelude.{IfSome, IsSomeAnd}
 use Rattle.std.specs.Io.KnownBytes.{Consumes, IsAtEnd}
 use Rattle.flash_model.proofs.Runs.{past_more}
-use Rattle.flash_model.specs.Arming.{Begins, BeginsAtMost, Erases, ErasesAtMost, Programs, ProgramsAtMost}
+use Rattle.flash_model.specs.Arming.{Begins, BeginsAtMost, Erases, ErasesAtMost, FailsOnce, Programs, ProgramsAtMost}
 use Rattle.flash_model.specs.Chip.{CallCount, Chip, IsFresh, Keeps, KeepsCount, LeavesOnly, Setting, Stays, count_of}
 use Rattle.slot_journal.specs.Format.{IsErased, IsFirstWritten}
 use Rattle.node_store.specs.Provisioning.{provisioning}
@@ -69,20 +69,20 @@ pub through : (old mid new : Chip) → IsSameFlash old mid → Keeps mid new →
 through old mid new h k = record { honest = subst IsTrue (sym k.honest) h.honest; steady = k.steady ∙ h.steady; later = omega (arith, h.later, k.later); past = past_more old mid new h.past k.past }
 
 -- what was set when power was cycled is set still
-set_after : (old mid new : Chip) → new.setting ≡ mid.setting → mid.setting ≡ record { faults = old.faults; arm = None; saved = mid.now; moment = mid.moment; called = 0; cycles = old.setting.cycles + 1 }
-    → new.setting ≡ record { faults = old.faults; arm = None; saved = mid.now; moment = new.setting.moment; called = 0; cycles = old.setting.cycles + 1 }
-set_after old mid new kept is = subst (λ (s : Setting). s ≡ record { faults = old.faults; arm = None; saved = mid.now; moment = s.moment; called = 0; cycles = old.setting.cycles + 1 }) (sym (kept ∙ is)) refl
+set_after : (old mid new : Chip) → new.setting ≡ mid.setting → mid.setting ≡ record { faults = old.faults; arm = None; saved = mid.now; moment = mid.moment; called = 0; programmed = 0; cycles = old.setting.cycles + 1 }
+    → new.setting ≡ record { faults = old.faults; arm = None; saved = mid.now; moment = new.setting.moment; called = 0; programmed = 0; cycles = old.setting.cycles + 1 }
+set_after old mid new kept is = subst (λ (s : Setting). s ≡ record { faults = old.faults; arm = None; saved = mid.now; moment = s.moment; called = 0; programmed = 0; cycles = old.setting.cycles + 1 }) (sym (kept ∙ is)) refl
 
 -- an octet isn't erased, and the content stays
 pub written_at : (old mid new : Chip) (at : ℕ) → KeepsCount old mid → old.images mid.now → IsFresh mid
-    → mid.setting ≡ record { faults = old.faults; arm = None; saved = mid.now; moment = mid.moment; called = 0; cycles = old.setting.cycles + 1 } → Keeps mid new → new.faults ≡ mid.faults
+    → mid.setting ≡ record { faults = old.faults; arm = None; saved = mid.now; moment = mid.moment; called = 0; programmed = 0; cycles = old.setting.cycles + 1 } → Keeps mid new → new.faults ≡ mid.faults
     → IsFirstWritten mid.now at → ((IsErased mid.now → ⊥) → Stays mid new) → count_of mid ≡ only_slots 0 → ((IsErased mid.now → ⊥) → count_of new ≡ count_of mid) → IsWrittenAt at old new
 written_at old mid new at count image fresh setting keeps same first unchanged none no_calls =
     let stays = unchanged (λ erased. first.written (erased at first.within)) in
     record {
       was = subst old.images (sym stays.now) image;
       first = subst (λ c. IsFirstWritten c at) (sym stays.now) first;
-      setting = subst (λ (c : List ℕ). new.setting ≡ record { faults = old.faults; arm = None; saved = c; moment = new.setting.moment; called = 0; cycles = old.setting.cycles + 1 })
+      setting = subst (λ (c : List ℕ). new.setting ≡ record { faults = old.faults; arm = None; saved = c; moment = new.setting.moment; called = 0; programmed = 0; cycles = old.setting.cycles + 1 })
           (sym stays.now) (set_after old mid new keeps.setting setting);
       no_fault = same ∙ count.faults;
       calls = no_calls (λ erased. first.written (erased at first.within)) ∙ none;
@@ -108,12 +108,13 @@ was_erased old mid image erased = (mid.now, image, erased)
 
 -- the flash failed while the node was provisioned
 pub fails_early : (records : List StoreRecord) (old mid new : Chip) → KeepsCount old mid → old.images mid.now → IsFresh mid
-    → mid.setting ≡ record { faults = old.faults; arm = None; saved = mid.now; moment = mid.moment; called = 0; cycles = old.setting.cycles + 1 } → Keeps mid new → mid.faults < new.faults
+    → mid.setting ≡ record { faults = old.faults; arm = None; saved = mid.now; moment = mid.moment; called = 0; programmed = 0; cycles = old.setting.cycles + 1 } → Keeps mid new → mid.faults < new.faults → FailsOnce mid new
     → ((t : ℕ) (c : List ℕ) → t ≤ new.moment → new.images c → new.since t c)
     → (IsErased mid.now → LeavesOnly mid new (IsMade records)) → ((IsErased mid.now → ⊥) → Stays mid new) → count_of mid ≡ only_slots 0 → BeginsAtMost 8 mid new
     → ErasesAtMost 0 mid new → ProgramsAtMost 128 mid new → ((IsErased mid.now → ⊥) → count_of new ≡ count_of mid) → FailsEarly records old new
-fails_early records old mid new count image fresh setting keeps failed counts made unchanged none most most_erases most_octets no_calls = record {
+fails_early records old mid new count image fresh setting keeps failed once counts made unchanged none most most_erases most_octets no_calls = record {
   failed = omega (arith, count.faults, failed);
+  once = omega (arith, count.faults, once);
   setting = set_after old mid new keeps.setting setting;
   found = mid.now;
   was = image;
@@ -145,7 +146,7 @@ begun_since mid new none begins erases octets =
 
 -- the node was provisioned on it in this format
 pub was_provisioned : (format : ℕ) (p q : Provision) (old mid new : Chip) → p ≡ q → KeepsCount old mid → old.images mid.now
-    → mid.setting ≡ record { faults = old.faults; arm = None; saved = mid.now; moment = mid.moment; called = 0; cycles = old.setting.cycles + 1 } → IsErased mid.now → Keeps mid new → new.faults ≡ mid.faults
+    → mid.setting ≡ record { faults = old.faults; arm = None; saved = mid.now; moment = mid.moment; called = 0; programmed = 0; cycles = old.setting.cycles + 1 } → IsErased mid.now → Keeps mid new → new.faults ≡ mid.faults
     → count_of mid ≡ only_slots 0 → Begins 8 mid new → Erases 0 mid new → Programs 128 mid new → IsProvisioned new (provisioned (provisioning p)) → IsInFormat format new → WasProvisioned format (provisioned (provisioning q)) old new
 was_provisioned format p q old mid new of count image setting erased keeps same none costs erases octets made is = record {
   found = mid.now;

@@ -108,7 +108,7 @@ pub record IsWrittenAt (at : ℕ) (old new : Chip) : Type 0 where
   pub was : old.images new.now
   pub first : IsFirstWritten new.now at
   pub setting : new.setting
-      ≡ record { faults = old.faults; arm = None; saved = new.now; moment = new.setting.moment; called = 0; cycles = old.setting.cycles + 1 }
+      ≡ record { faults = old.faults; arm = None; saved = new.now; moment = new.setting.moment; called = 0; programmed = 0; cycles = old.setting.cycles + 1 }
   pub no_fault : new.faults ≡ old.faults
   pub calls : count_of new ≡ record { calls = 0; erases = 0; octets = 0 }
   pub stays : (image : List ℕ) → new.images image → image ≡ new.now

@@ -100,8 +100,14 @@ impl Machine for ScriptMachine {
         self.machine.inform(n, d);
     }
 
-    fn refill<F: Flash>(&mut self, n: &Numbers, flash: &mut F, dry: Dry) -> Result<u64, Stop> {
-        self.machine.refill(n, flash, dry)
+    fn refill<F: Flash>(
+        &mut self,
+        n: &Numbers,
+        flash: &mut F,
+        d: &mut Drawer,
+        dry: Dry,
+    ) -> Result<u64, Stop> {
+        self.machine.refill(n, flash, d, dry)
     }
 
     fn take_entries<F: Flash>(&mut self) -> Vec<Entry> {

@@ -27,7 +27,7 @@ returns-in-Err-Flash-clause-ends g c =
     let did = c.provision.ensures in
     let cause = subst (IsFormatCause mid new) c.in-Err-Flash.field-0-is c.in-Err-Flash.ensures.cause in
     let early : FailsEarly (provisioned (provisioning c.provision_of.result)) old new =
-    fails_early (provisioned (provisioning c.provision_of.result)) old mid new cycle.frame (cycle.image c.requires.honest) fresh cycle.setting did.frame cause
+    fails_early (provisioned (provisioning c.provision_of.result)) old mid new cycle.frame (cycle.image c.requires.honest) fresh cycle.setting did.frame cause did.once
     (law.counts_now c.provision.new.flash) (did.any_moment fresh) (did.unchanged fresh.honest) (none_counted mid cycle.changes cycle.erases cycle.octets) did.costs.most_calls did.costs.most_erases did.costs.most_octets (did.no_calls fresh.honest) in
     let records = provisioned (provisioning (provision_of (g.S.LifeSource.script c.args.script.now).provision)) in
     let said : FailsEarly records old new = subst (λ (p : Provision). FailsEarly (provisioned (provisioning p)) old new) (c.provision_of.ensures.value ∙ ap provision_of c.node.ensures.value) early in
