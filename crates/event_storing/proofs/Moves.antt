@@ -1,10 +1,11 @@
 -- What a record does to the mark and the counter, and the state that it says.
-use Rattle.std.proofs.Common.{◌≡◌, ℕ, ◌<◌, ◌≤◌, Bool, true, false, refl, List, [], ◌∷◌, ◌++◌, ap, ◌∙◌, sym, subst, arith, Option, Some, None, append_assoc}
+use Rattle.std.proofs.Common.{◌≡◌, ℕ, ◌<◌, ◌≤◌, Bool, true, false, refl, List, [], ◌∷◌, ◌++◌, ap, ◌∙◌, sym, subst, ⊎_elim, inl, inr, arith, Option, Some, None, append_assoc}
 use Rattle.std.specs.Prelude.{fold, map, nat_lt, if◌then◌else◌, Result, Ok, Err, OnOk}
 use Rattle.std.proofs.lemmas.Bool.Decides.{nat_tests}
 use Rattle.std.proofs.lemmas.List.{append-nil, map-append}
+use Rattle.std.proofs.lemmas.List.Sums.{fold-append}
 use Rattle.event_records.specs.Putting.{IsMove, IsMoveTo}
-use Rattle.event_storing.specs.Storing.{advance_to, advances_of, moved_to, state_said}
+use Rattle.event_storing.specs.Storing.{HasRisen, advance_to, advances_of, moved_to, state_said}
 use Rattle.mesh_base.specs.IvState.{transmit_of}
 use Rattle.mesh_base.specs.declared.iv_state.IvState.{IvState}
 use Rattle.node_records.specs.declared.persist.Persist.{Persist}
@@ -13,7 +14,7 @@ use Rattle.node_store.specs.Tie.{IsNoNumbers}
 use Rattle.record_types.specs.declared.records.StoreRecord.{StoreRecord}
 use Rattle.record_types.specs.declared.records.StoreRecord.TheVariants as R
 use Rattle.seq_reserve.specs.Reserving.{first_word}
-use Rattle.seq_word.specs.Seen.{KeeperView}
+use Rattle.seq_word.specs.Seen.{KeeperView, last_word}
 use Rattle.store_definitions.specs.Config.{Config, changed}
 
 -- The mark: a record of no numbers leaves it.
@@ -81,6 +82,13 @@ not_less a b up e = grind (arith, nat_tests)
 is_less : (a b : ℕ) → nat_lt a b ≡ true → a < b
 is_less a b e = grind (arith, nat_tests)
 
+last_of : (words : List ℕ) (word : ℕ) → last_word (words ++ word ∷ []) ≡ word
+last_of words word = fold-append (λ (before next : ℕ). next) 0 words (word ∷ [])
+
+-- what rose by two moves rose
+pub risen_more : (first mid new : KeeperView) → HasRisen first mid → HasRisen mid new → HasRisen first new
+risen_more first mid new before more = ⊎_elim (λ same. subst (HasRisen first) (sym same) before) (λ up. inr up) more
+
 module _ {T E : Type 0} (r : Result T E) (c : Config) (old new : KeeperView) where
   on_ok_by : (P Q : Type 0) → (P → Q) → OnOk r P → OnOk r Q
   on_ok_by P Q f = (elim r as (λ (s : Result T E). OnOk s P → OnOk s Q) [ Ok x ↦ λ h. f h | Err e ↦ λ h. tt ])
@@ -110,6 +118,22 @@ module _ {T E : Type 0} (r : Result T E) (c : Config) (old new : KeeperView) whe
       by_test : (b : Bool) → nat_lt (transmit_of c.iv) (transmit_of to) ≡ b → OnOk r (moved_to new ≡ moved_to old ++ (if b then first_word to ∷ [] else []))
       by_test true e = on_ok_by _ _ (λ h. goes_to (first_word to) h.1) (goes (is_less (transmit_of c.iv) (transmit_of to) e))
       by_test false e = on_ok_all _ (stays_to [] refl (stays (not_less (transmit_of c.iv) (transmit_of to) up e)))
+
+  -- and its mark with it
+  pub risen_none : new ≡ old → OnOk r (HasRisen old new)
+  risen_none same = on_ok_all _ (inl same)
+
+  pub risen_some : (to : IvState) → transmit_of c.iv ≤ transmit_of to
+      → (transmit_of c.iv ≡ transmit_of to → new ≡ old)
+      → (transmit_of c.iv < transmit_of to → OnOk r ((new.mark ≡ first_word to) × ((found : ℕ) × (new.advances ≡ old.advances ++ (found, first_word to) ∷ []))))
+      → OnOk r (HasRisen old new)
+  risen_some to up stays goes = by_test (nat_lt (transmit_of c.iv) (transmit_of to)) refl where
+    at_last : (new.mark ≡ first_word to) × ((found : ℕ) × (new.advances ≡ old.advances ++ (found, first_word to) ∷ [])) → HasRisen old new
+    at_last h = inr (h.0 ∙ sym (ap last_word (goes_to (first_word to) h.1) ∙ last_of (moved_to old) (first_word to)))
+
+    by_test : (b : Bool) → nat_lt (transmit_of c.iv) (transmit_of to) ≡ b → OnOk r (HasRisen old new)
+    by_test true e = on_ok_by _ _ at_last (goes (is_less (transmit_of c.iv) (transmit_of to) e))
+    by_test false e = on_ok_all _ (inl (stays (not_less (transmit_of c.iv) (transmit_of to) up e)))
 
 -- one record more
 advances_push : (c : Config) (items : List StoreRecord) (item : StoreRecord)

@@ -4,7 +4,7 @@
 ghost use Rattle.std.specs.Prelude.{◌≡◌, ◌+◌, List, [], ◌∷◌, ◌++◌, false, OnOk};
 ghost use Rattle.flash_model.specs.Chip.{count_of};
 ghost use Rattle.event_records.specs.Putting.{IsMove};
-ghost use Rattle.event_storing.specs.Storing.{advance_to, moved_to, state_said};
+ghost use Rattle.event_storing.specs.Storing.{HasRisen, advance_to, moved_to, state_said};
 ghost use Rattle.node_records.specs.Full.{IsFull};
 ghost use Rattle.node_records.specs.Tables.{config_in};
 ghost use Rattle.node_store.specs.Calls.{calls_of, used_with_room};
@@ -98,6 +98,7 @@ pub(crate) fn store_one<F: Flash>(
     ensures advanced { OnOk result
         (moved_to reserve.new.keeper
         ≡ moved_to reserve.old.keeper ++ advance_to (config_in reserve.old.store.persist) (state_said item.now)) }
+    ensures risen { OnOk result (HasRisen reserve.old.keeper reserve.new.keeper) }
     ensures cut { CutLeaves (λ records. IsPut records item.now) (F.chip flash.old) (F.chip flash.new) reserve.old.store }
     ensures durable { (records : List StoreRecord) → IsStoreOf (F.chip flash.old) reserve.old.store records
         → IsDurable (F.chip flash.new) reserve.new.keeper.mark }

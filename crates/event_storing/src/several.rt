@@ -4,7 +4,7 @@
 ghost use Rattle.std.specs.Prelude.{◌≡◌, ◌≢◌, ℕ, ◌+◌, ◌*◌, ◌≤◌, List, [], ◌++◌, length, true, false, Ok, Err, OnOk};
 ghost use Rattle.flash_model.specs.Chip.{count_of};
 ghost use Rattle.event_records.specs.Putting.{AreMoves, ArePuttable};
-ghost use Rattle.event_storing.specs.Storing.{advances_of, moved_to};
+ghost use Rattle.event_storing.specs.Storing.{HasRisen, advances_of, moved_to};
 ghost use Rattle.node_records.specs.Tables.{config_in};
 ghost use Rattle.node_store.specs.Calls.{only_slots};
 ghost use Rattle.node_store.specs.Tie.{IsFront, IsStoreOf};
@@ -39,6 +39,7 @@ fn store_each<F: Flash>(
     ensures advanced { OnOk result
         (moved_to reserve.new.keeper
         ≡ moved_to reserve.old.keeper ++ advances_of (config_in reserve.old.store.persist) items.now) }
+    ensures risen { OnOk result (HasRisen reserve.old.keeper reserve.new.keeper) }
     ensures cut { CutLeaves (λ records. IsFront records items.now) (F.chip flash.old) (F.chip flash.new)
         reserve.old.store }
     ensures durable { (records : List StoreRecord) → IsStoreOf (F.chip flash.old) reserve.old.store records
@@ -93,6 +94,7 @@ pub fn store_records<F: Flash>(
     ensures advanced { OnOk result
         (moved_to reserve.new.keeper
         ≡ moved_to reserve.old.keeper ++ advances_of (config_in reserve.old.store.persist) records.now) }
+    ensures risen { OnOk result (HasRisen reserve.old.keeper reserve.new.keeper) }
     ensures cut { CutLeaves (λ before. IsFront before records.now) (F.chip flash.old) (F.chip flash.new)
         reserve.old.store }
     ensures fronts { (before : List StoreRecord) → IsStoreOf (F.chip flash.old) reserve.old.store before

@@ -1,7 +1,7 @@
 //! The machine of a node.
 #![tactic(auto)]
 
-ghost use Rattle.std.specs.Prelude.{◌≡◌, ◌≢◌, ℕ, ◌+◌, ◌<◌, ◌≤◌, ◌^◌, List, [], ◌∷◌, ◌++◌, length, drop, All, true, false, Ok, Err, IsErr, IfOk, OnOk, IfErr, ◌-◌, max, OnErr};
+ghost use Rattle.std.specs.Prelude.{◌≡◌, ◌≢◌, ℕ, ◌+◌, ◌<◌, ◌≤◌, ◌^◌, List, [], ◌∷◌, ◌++◌, length, drop, All, true, false, Ok, Err, IsErr, IfOk, OnOk, IfErr, ◌-◌, ◌⊎◌, max, OnErr};
 ghost use Rattle.flash_model.specs.Arming.{FailsOnce};
 ghost use Rattle.flash_model.specs.Chip.{Chip, IsFresh, Keeps};
 ghost use Rattle.mesh_types.specs.declared.events.Event.{Event as AnEvent};
@@ -10,7 +10,7 @@ ghost use Rattle.record_types.specs.declared.records.StoreRecord.{StoreRecord};
 ghost use Rattle.event_definitions.specs.History.{Past};
 ghost use Rattle.event_definitions.specs.Role.{Role};
 ghost use Rattle.run_definitions.specs.Order.{is_outside};
-ghost use Rattle.seq_word.specs.Seen.{IsFoundBy, last_word, went_to};
+ghost use Rattle.seq_word.specs.Seen.{IsBelow, IsFoundBy, last_word, went_to};
 ghost use Rattle.seq_word.specs.Word.{seq_of};
 ghost use Rattle.machine_contract.specs.Idle.{IsDueIn, IsIdleFor, IsQuietTick};
 ghost use Rattle.machine_contract.specs.Moved.{HasMoved};
@@ -132,6 +132,9 @@ pub trait Machine: Send + Drop {
         ensures jobs { IfOk result (λ r. All (IsJob event.now) r.jobs) }
         // After the lines of what isn't from outside nothing is handled.
         ensures quiet { is_outside event.now ≡ false → IfOk result (λ r. All IsQuiet r.jobs) }
+        // Where the counter was moved, the mark is the word that it was moved to last.
+        ensures risen { OnOk result
+            ((advances self.new ≡ advances self.old) ⊎ ((view self.new).mark ≡ last_word (went_to (advances self.new)))) }
         // It makes no read call on the flash, whatever it answers.
         ensures unread { (F.chip flash.new).reads ≡ (F.chip flash.old).reads }
         // Once a call of the flash has failed, it makes none.
@@ -146,12 +149,14 @@ pub trait Machine: Send + Drop {
         ensures frame { Keeps (F.chip flash.old) (F.chip flash.new) };
 
     /// Tells a seat that draws where the machine has moved the counter to so far. What it draws from now on isn't below that (`above` of `try_draw` in
-    /// `seq_word`). The machine stays as it is, and it takes no memory.
+    /// `seq_word`), and what it has drawn is below the mark that the machine published last (`below`). The machine stays as it is, and it takes no
+    /// memory.
     fn inform(&mut self, n: &Numbers, d: &mut Drawer)
         requires made { (view self.old).which ≡ n.now.which }
         requires drawer_made { d.old.which ≡ n.now.which }
         ensures same { self.new ≡ self.old }
-        ensures informed { d.new ≡ record d.old { informed = d.old.informed ++ went_to (advances self.old) } };
+        ensures informed { d.new ≡ record d.old { informed = d.old.informed ++ went_to (advances self.old) } }
+        ensures below { IsBelow d.old (view self.old).mark };
 
     /// Stores a refill, and publishes its mark, 256 higher, where the mark that a draw reached is the one published last (`filled`); else a
     /// refill came between, and nothing changes (`nothing`). Returns the mark that is published then. It takes no memory, and reads nothing of the
@@ -250,6 +255,9 @@ pub trait Machine: Send + Drop {
         // A machine that isn't closed has moved the counter with each rise of the transmit IV Index, and at no other time.
         ensures moved { (first : FlashFound) (f : F) (over : List StoreRecord) (m : Self) → stands first (F.chip f) over m
             → (view m).closed ≡ false → HasMoved role over (view m).entries (view m).fills (advances m) }
+        // And it tells behind its last entry where it moved the counter to last.
+        ensures last { (first : FlashFound) (f : F) (over : List StoreRecord) (m : Self) → stands first (F.chip f) over m
+            → (view m).closed ≡ false → last_word (went_to (advances m)) ≡ last_word (view m).moves }
         ensures quiet { (past : Past) (ticks : ℕ) → quiet past ticks → IsQuietTick role past ticks };
 
     /// A machine stands over the same flash, also where that was given an arm. It does nothing.

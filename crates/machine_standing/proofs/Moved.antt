@@ -1,14 +1,14 @@
 -- Where the counter is moved to, as records are stored.
-use Rattle.std.proofs.Common.{◌≡◌, ℕ, List, [], ◌∷◌, ◌++◌, drop, fold, length, nat_lt, if◌then◌else◌, append-nil, append_assoc, refl, ap, sym, ◌∙◌, arith}
+use Rattle.std.proofs.Common.{◌≡◌, ◌⊎◌, inl, inr, ℕ, List, [], ◌∷◌, ◌++◌, drop, fold, length, nat_lt, if◌then◌else◌, append-nil, append_assoc, refl, ap, sym, ◌∙◌, arith}
 use Rattle.std.proofs.lemmas.Bool.Decides.{nat_tests}
 use Rattle.std.proofs.lemmas.Grind.{fold-append}
 use Rattle.event_definitions.specs.Handling.{past_of, records_after}
 use Rattle.event_definitions.specs.History.{Told}
 use Rattle.event_definitions.specs.Role.{Role}
-use Rattle.event_storing.specs.Storing.{advance_to, advances_of, state_said}
+use Rattle.event_storing.specs.Storing.{HasRisen, advance_to, advances_of, state_said}
 use Rattle.machine_contract.specs.Moves.{moves_from, rise, rises}
 use Rattle.machine_contract.specs.Moved.{IsMoved}
-use Rattle.seq_word.specs.Seen.{last_word, went_to}
+use Rattle.seq_word.specs.Seen.{KeeperView, last_word, went_to}
 use Rattle.mesh_base.specs.IvState.{transmit_of}
 use Rattle.record_types.specs.declared.records.StoreRecord.{StoreRecord}
 use Rattle.record_types.specs.declared.records.StoreRecord.TheVariants as R
@@ -76,6 +76,10 @@ last_moved over records advances h =
     ap last_word h.moved
     ∙ ap (λ l. last_word (rises (config_of over) l)) (sym (dropped over h.items) ∙ ap (drop (length over)) (sym h.are))
 
+-- the last of these words is the one that was put behind them
+pub last_behind : (words : List ℕ) (word : ℕ) → last_word (words ++ word ∷ []) ≡ word
+last_behind words word = fold-append (λ before x. x) 0 words (word ∷ [])
+
 pub moved_entry : (role : Role) (over : List StoreRecord) (told : List Told) (t : Told) (records : List StoreRecord) (advances : List (ℕ × ℕ)) (moves : List ℕ)
     → moves ≡ moves_from role over [] told → records ≡ records_after role (past_of told t) t → IsMoved over records advances
     → moves ++ last_word (went_to advances) ∷ [] ≡ moves_from role over [] (told ++ t ∷ [])
@@ -96,3 +100,8 @@ advances_are c [] = refl
 advances_are c (item ∷ items) =
     ap (λ l. l ++ advances_of (changed c item) items) (advance_is c item)
     ∙ ap (λ l. rise c (changed c item) ++ l) (advances_are (changed c item) items)
+
+-- Where it was moved, the mark is the word that it was moved to last.
+pub risen_so : (old new : KeeperView) → HasRisen old new → (new.advances ≡ old.advances) ⊎ (new.mark ≡ last_word (went_to new.advances))
+risen_so old new (inl same) = inl (ap (λ (k : KeeperView). k.advances) same)
+risen_so old new (inr rise) = inr rise

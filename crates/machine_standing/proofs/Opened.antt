@@ -25,6 +25,7 @@ use Rattle.event_definitions.specs.History.{Past}
 use Rattle.event_definitions.specs.Role.{Role}
 use Rattle.seq_reserve.specs.Reserving.{IsPublished}
 use Rattle.seq_reserve.specs.declared.reserve.Reserve.{Reserve}
+use Rattle.seq_word.specs.Seen.{last_word, went_to}
 use Rattle.slot_journal.specs.Headers.{IsTidy}
 use Rattle.slot_journal.specs.Tie.{IsMounted as IsJournalMounted}
 use Rattle.store_definitions.specs.Config.{Config, config_of}
@@ -64,6 +65,7 @@ opened_stands role Before first chip over r t elements store node before publish
   };
   usable = λ e. record { store = store; before = before };
   moved = λ e. subst (λ (a : List (ℕ × ℕ)). IsMoved over over a) (sym none) (moved_none over);
+  last = λ e. ap (λ (a : List (ℕ × ℕ)). last_word (went_to a)) none;
   began = began;
   wear = λ e. wear;
 }
@@ -139,6 +141,7 @@ stands_same role Before first old new over m same s = record {
   };
   usable = λ e. record { store = store_same old new m.reserve.store _ same (s.usable e).store; before = (s.usable e).before };
   moved = s.moved;
+  last = s.last;
   began = omega (arith, s.began, same.faults, same.began);
   wear = λ e. subst (λ (n : CallCount). CostsAndUses s.life.paid.used s.life.paid.stored first.count n m.reserve.store.journal.used) (sym same.count) (s.wear e);
 }

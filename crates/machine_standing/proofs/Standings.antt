@@ -9,12 +9,12 @@ use Rattle.flash_model.specs.Chip.{Chip, count_of}
 use Rattle.machine_contract.specs.declared.answers.Hand.TheVariants as H
 use Rattle.machine_contract.specs.Moves.{rises}
 use Rattle.machine_contract.specs.Moved.{IsMoved}
-use Rattle.seq_word.specs.Seen.{went_to}
+use Rattle.seq_word.specs.Seen.{last_word, went_to}
 use Rattle.machine_contract.specs.Opening.{FlashFound, IsLeft}
 use Rattle.machine_contract.specs.Standing.{AreInHand, IsFrontLeft, IsLeftBy, past_now}
 use Rattle.machine_standing.proofs.Images.{front_left, front_node, store_left, store_mark, store_node}
 use Rattle.machine_standing.proofs.Lives.{filled_more}
-use Rattle.machine_standing.proofs.Moved.{moved_entry, moved_fill, moved_more}
+use Rattle.machine_standing.proofs.Moved.{last_behind, moved_entry, moved_fill, moved_more}
 use Rattle.machine_standing.proofs.Worn.{none_in_hand, stored_more}
 use Rattle.machine_standing.specs.Kept.{AreKept}
 use Rattle.machine_standing.specs.Ties.{IsCutIn, IsKind, IsNodeStore, IsOverBy, StandsBy, entered_by, refilled_by, stopped_by, with_fill}
@@ -126,6 +126,7 @@ module _ {Memory : Type 0} (role : Role) (Before : Past → LifeMachine Memory �
         };
         usable = λ e. subst (λ l. IsOverBy Before new (record { told = past.told ++ t ∷ []; records = l }) (entered_by m r tables entry)) (sym left_is) (record { store = store; before = before });
         moved = λ e. subst (λ l. IsMoved over l r.keeper.advances) (sym left_is) gone;
+        last = λ e. sym (last_behind m.moves (last_word (went_to r.keeper.advances)));
         began = began;
         wear = λ e. worn;
       }
@@ -169,6 +170,7 @@ module _ {Memory : Type 0} (role : Role) (Before : Past → LifeMachine Memory �
     };
     usable = λ e. absurd (true≢false e);
     moved = λ e. absurd (true≢false e);
+    last = λ e. absurd (true≢false e);
     began = omega (arith, rose);
     wear = λ e. absurd (true≢false e);
   }
@@ -215,6 +217,7 @@ module _ {Memory : Type 0} (role : Role) (Before : Past → LifeMachine Memory �
     };
     usable = λ e. absurd (true≢false e);
     moved = λ e. absurd (true≢false e);
+    last = λ e. absurd (true≢false e);
     began = omega (arith, rose);
     wear = λ e. absurd (true≢false e);
   }
@@ -273,6 +276,7 @@ module _ {Memory : Type 0} (role : Role) (Before : Past → LifeMachine Memory �
         usable = λ e. subst (λ l. IsOverBy Before new (record { told = past.told; records = l }) (refilled_by m r)) (sym left_is) (record { store = store; before = before });
         moved = λ e. subst (λ l. IsMoved over l r.keeper.advances) (sym left_is)
             (subst (λ (a : List (ℕ × ℕ)). IsMoved over all a) (sym same) (moved_fill over past.records m.reserve.keeper.advances (s.moved runs)));
+        last = λ e. ap (λ (a : List (ℕ × ℕ)). last_word (went_to a)) same ∙ s.last runs;
         began = began;
         wear = λ e. worn;
       }

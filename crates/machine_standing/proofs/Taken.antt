@@ -34,6 +34,7 @@ stands_taken role Before law first chip over m n h = record {
   };
   usable = λ runs. let o = h.usable runs in record { store = o.store; before = law (past_now role over h.life.told m.fills) m n o.before };
   moved = h.moved;
+  last = h.last;
   began = h.began;
   wear = h.wear;
 }

@@ -58,6 +58,8 @@ pub record StandsBy {Memory : Type 0} (role : Role) (Before : Past → LifeMachi
   pub life : IsLifeSoFar role IsNode first chip over (shown_of m)
   pub usable : m.closed ≡ false → IsOverBy Before chip (past_now role over life.told m.fills) m
   pub moved : m.closed ≡ false → IsMoved over (past_now role over life.told m.fills).records m.reserve.keeper.advances
+  -- behind its last entry it shows where it moved the counter to last
+  pub last : m.closed ≡ false → last_word (went_to m.reserve.keeper.advances) ≡ last_word m.moves
   pub began : chip.setting.faults ≤ chip.faults
   pub wear : m.closed ≡ false
       → CostsAndUses life.paid.used life.paid.stored first.count (count_of chip) m.reserve.store.journal.used

@@ -1,5 +1,5 @@
 -- What follows for a machine of the plan of an event, and of what was made of it.
-use Rattle.std.proofs.Common.{◌≡◌, ℕ, ◌+◌, ◌-◌, ◌≤◌, ◌<◌, ◌^◌, Bool, true, false, List, [], ◌∷◌, ◌++◌, fold, length, refl, ap, sym, subst, ◌∙◌, append-nil, arith, Option}
+use Rattle.std.proofs.Common.{◌≡◌, inl, ℕ, ◌+◌, ◌-◌, ◌≤◌, ◌<◌, ◌^◌, Bool, true, false, List, [], ◌∷◌, ◌++◌, fold, length, refl, ap, sym, subst, ◌∙◌, append-nil, arith, Option}
 use Rattle.std.proofs.lemmas.List.Sums.{fold-append}
 use Rattle.std.specs.Prelude.{All}
 use Rattle.entry_log.specs.Log.{LogView}
@@ -152,6 +152,7 @@ done_by old stored log event place before after a plan tables asked st same e is
     published = st.published;
     made = st.made;
     moved = st.moved;
+    risen = st.risen;
     keys = st.keys;
     tables = st.tables;
     models = st.models;
@@ -181,6 +182,7 @@ nothing_stored old new event turn fit same chip = record {
   published = subst (λ (r : Reserve). IsPublished r.store r.keeper) (sym same) turn.ready.published;
   made = ap (λ (r : Reserve). r.keeper.which) same;
   moved = ap (λ (r : Reserve). went_to r.keeper.advances) same ∙ sym (append-nil (went_to old.reserve.keeper.advances));
+  risen = inl (ap (λ (r : Reserve). r.keeper) same);
   keys = subst (λ (r : Reserve). IsFit new.tables.hearing r.store.persist) (sym same) fit;
   tables = λ past h. h;
   models = refl;

@@ -7,6 +7,7 @@ use Rattle.event_plans.specs.Memory.{AreNodeTablesOf, IsFitFor, NodeTablesView, 
 use Rattle.event_plans.specs.Plans.{IsPlanned, IsStanding, LeavesConfig, insight_in, of_own}
 use Rattle.event_plans.specs.declared.plan.OwnPlan.{OwnPlan}
 use Rattle.event_records.specs.Putting.{AreMoves, ArePuttable}
+use Rattle.event_storing.specs.Storing.{HasRisen}
 use Rattle.flash_model.specs.Chip.{Chip, count_of}
 use Rattle.machine_contract.specs.Moves.{rises}
 use Rattle.seq_word.specs.Seen.{last_word, went_to}
@@ -90,6 +91,7 @@ pub record AreStored (items : List StoreRecord) (old new : Parts) (before after 
   -- with each that raised the transmit IV Index the counter was moved
   pub moved : went_to new.reserve.keeper.advances
       ≡ went_to old.reserve.keeper.advances ++ rises (config_in old.reserve.store.persist) items
+  pub risen : HasRisen old.reserve.keeper new.reserve.keeper
   pub keys : IsFit new.tables.hearing new.reserve.store.persist
   pub tables : (past : Past) → AreNodeTablesOf old.tables past → AreNodeTablesOf new.tables past
   pub models : new.tables.models ≡ old.tables.models

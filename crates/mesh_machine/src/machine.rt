@@ -1,7 +1,7 @@
 //! The machine.
 #![tactic(auto)]
 
-ghost use Rattle.std.specs.Prelude.{◌≡◌, ◌+◌, ℕ, List, All, length, true, false, Err, Some, IfErr, IfOk, IfSome, IsTrue, OnOk, ◌↔◌};
+ghost use Rattle.std.specs.Prelude.{◌≡◌, ◌⊎◌, ◌+◌, ℕ, List, All, length, true, false, Err, Some, IfErr, IfOk, IfSome, IsTrue, OnOk, ◌↔◌};
 ghost use Rattle.early_reading.specs.Known.{IsKnown};
 ghost use Rattle.early_reading.specs.Views.{IsRead, read_before};
 ghost use Rattle.flash_model.specs.Arming.{FailsOnce};
@@ -110,6 +110,9 @@ impl MeshMachine {
             ≡ with_entry (shown self.old) (entry_for (shown self.old) bearer number event.now r.answer r.jobs)
             (last_word (went_to (advances_of self.new))) (shown self.new).mark) }
         ensures place { IfOk result (λ r. r.at ≡ length (shown self.old).entries) }
+        ensures risen { OnOk result
+            ((advances_of self.new ≡ advances_of self.old)
+            ⊎ ((shown self.new).mark ≡ last_word (went_to (advances_of self.new)))) }
         ensures usable { OnOk result ((shown self.old).closed ≡ false) }
         ensures no_fault { OnOk result ((F.chip flash.new).faults ≡ (F.chip flash.old).faults) }
         ensures jobs { IfOk result (λ r. All (IsJob event.now) r.jobs) }
@@ -154,6 +157,9 @@ impl MeshMachine {
             ≡ with_entry (shown self.old) (entry_for (shown self.old) bearer number (E.Net octets.now) r.answer r.jobs)
             (last_word (went_to (advances_of self.new))) (shown self.new).mark) }
         ensures place { IfOk result (λ r. r.at ≡ length (shown self.old).entries) }
+        ensures risen { OnOk result
+            ((advances_of self.new ≡ advances_of self.old)
+            ⊎ ((shown self.new).mark ≡ last_word (went_to (advances_of self.new)))) }
         ensures usable { OnOk result ((shown self.old).closed ≡ false) }
         ensures no_fault { OnOk result ((F.chip flash.new).faults ≡ (F.chip flash.old).faults) }
         ensures jobs { IfOk result (λ r. All (IsJob (E.Net octets.now)) r.jobs) }

@@ -23,7 +23,8 @@
 //!    (`published`). Whoever puts other records into `store` keeps it, if they say no mark.
 //! 2. The keeper is that of the words that `start` gave with it (`made`).
 //! 3. The counter begins at the stored mark (`opened`), and between any two steps of threads it is at most the mark (`in_order` of `Stands` in
-//!    `seq_word`; `order` of `close`), and the mark at most 256 above it, but while both move to a new IV Index (`mark_is_near`; `near` of `close`).
+//!    `seq_word`; `order` of `close`), and the mark at most 256 above it, and less where no seat owes a draw, but while both move to a new IV Index
+//!    (`mark_is_near`; `near`, `paid` of `close`).
 //! 4. After each call every image of the flash recovers the published mark or a higher one (`IsDurable`: `durable`), and at no moment of it a
 //!    lower one than the stored mark of before (`cut.mark` of `refill`).
 //! 5. A refill leaves the IV state, and its mark is 256 higher (`fill_of`: `filled`, `puts.kept` of `refill`). A mark is a word under the transmit IV Index

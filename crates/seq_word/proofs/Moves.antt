@@ -1,10 +1,8 @@
 -- Each step keeps the running rule.
 use Rattle.std.proofs.Common.{◌≡◌, ◌≢◌, ◌⊎◌, ℕ, zero, suc, ◌+◌, ◌-◌, ◌%◌, ◌<◌, ◌≤◌, Bool, true, false, true≢false, List, [], ◌∷◌, ◌++◌, set, refl, sym, ap, ◌∙◌, subst, ⊎_elim, inl, inr, arith}
 use Rattle.std.specs.Prelude.{◌==◌, ◌||◌, ◌&&◌, nat_le, nat_lt, ◌^◌, cond, max, slice_index, All, map, fold, sum_by}
-use Rattle.std.specs.List.{Contains}
-use Rattle.std.proofs.lemmas.List.{append-nil}
 use Rattle.std.proofs.lemmas.List.Sums.{sum_by-append, sum_by_push, fold-append}
-use Rattle.std.proofs.lemmas.List.Elements.{All-append, All-push, All-nil, All-tail, All-map, All-weaker, All-contains}
+use Rattle.std.proofs.lemmas.List.Elements.{All-append, All-cons, All-push, All-nil, All-tail, All-map, All-weaker}
 use Rattle.std.proofs.lemmas.Bool.Decides.{nat_tests}
 use mathlib.Core.Option.{some, none, some-ne-none, some-injective}
 use native.Mathlib.Decide.{dec_le, ℕ_discrete}
@@ -16,13 +14,20 @@ use Rattle.seq_word.specs.declared.looks.Look.{Look}
 use Rattle.seq_word.specs.declared.looks.Look.TheVariants as saw
 use Rattle.seq_word.specs.declared.rule.View.{View}
 use Rattle.seq_word.specs.Word.{IsWord, seq_of}
-use Rattle.seq_word.specs.Rule.{times, once_below, passed_over, gone, drawn_here, IsReached, HasReached, IsEndOf, IsOver, IsPast, IsWithin, Fits, Stands, Ruled, owes_above, IsPromised, owed_behind, next_above, above_last, nobody, first_keeper, without_parts, first_drawer, part_of, keeping, split_off, owing, promise_of, mark_of, moves_of, both, seeing, drawing, publishing, lifting, advancing, IsLastSeen, SeesMark, SeesNext, Draws, Publishes, Lifts, Advances, DrawnOnce}
+use Rattle.seq_word.specs.Rule.{times, once_below, passed_over, gone, drawn_here, IsReached, HasReached, IsEndOf, IsOver, IsPast, IsWithin, Fits, Stands, Ruled, owes_above, IsPromised, owed_behind, next_above, above_last, nobody, first_keeper, without_parts, first_drawer, part_of, keeping, split_off, owing, promise_of, mark_of, draws_of, moves_of, both, seeing, drawing, publishing, lifting, advancing, forgetting, IsLastSeen, SeesMark, SeesNext, Draws, Publishes, Lifts, Advances, Bounds, DrawnOnce}
 use Rattle.seq_word.proofs.Sums.{sum_by_at, share_of_one, share_of_two, share_alone, part_of-one, part_of-none, once_below-le, once_below_more, once_below-max, once_below-none, once_below-above, once_below-behind, once_below-greater, same-one, times_contains}
 
 -- the last two of a list
 two_last : {X : Type 0} (P : X → Type 0) (xs : List X) (a b : X) → All P (xs ++ a ∷ b ∷ []) → P a × P b
 two_last P [] a b h = (h 0 a (omega arith), h 1 a (omega arith))
 two_last P (x ∷ xs) a b h = two_last P xs a b (All-tail P x (xs ++ a ∷ b ∷ []) h)
+
+-- what holds of all of two lists, holds of all of each
+pub all_of_both : {X : Type 0} (P : X → Type 0) (xs ys : List X) → All P (xs ++ ys) → All P xs × All P ys
+all_of_both P [] ys h = (All-nil P, h)
+all_of_both P (x ∷ xs) ys h =
+    let rest = all_of_both P xs ys (All-tail P x (xs ++ ys) h) in
+    (All-cons P x xs (h 0 x (omega arith)) rest.0, rest.1)
 
 within_later : (n m n' m' : ℕ) → n ≤ n' → m ≤ m' → (x : Look) → IsWithin n m x → IsWithin n' m' x
 within_later n m n' m' up up' (saw.Mark x) h = let le : x ≤ m = h in omega arith
@@ -379,6 +384,43 @@ advances {S} o slots id me to is within word first =
     grows : (v : View) (n : ℕ) (x : ℕ) → times x v.drawn ≤ times x (advancing v n to).drawn
     grows v n x = omega arith
 
+-- the keeper is told what was drawn: that is below the counter, and the counter not above the mark
+pub bounds : {S : Type 0} (o slots id : ℕ) (me : Me S View) → me.0.keeps ≡ true → Allows (Ruled o) slots id me 0 (λ n. n) (Bounds (step slots 0 0 0 none) me)
+bounds {S} o slots id me is =
+    goes_counter o slots id me (λ n. n) (Bounds (step slots 0 0 0 none) me)
+    (λ n m k views h at.
+    let v = me.0 in
+    let fits = h.each id v at in
+    let grows : (x : ℕ) → times x v.drawn ≤ times x (forgetting v).drawn = λ x. omega arith in
+    let more = more_drawn views id v (forgetting v) at grows in (
+      forgetting v,
+      moves o n m k n m k views id v (forgetting v) h at h.counter_word h.mark_word (omega arith) (omega arith) h.in_order (λ j apart e. (e, refl)) (λ x. refl) refl refl
+          (λ _. omega arith)
+          (inl refl)
+          grows
+          (reached_later o views (set views id (forgetting v)) n more h.reached)
+          (looks_later o views (set views id (forgetting v)) more v.looks (h.found id v at))
+          (record {
+            since = fits.since;
+            drawn = fits.drawn;
+            raised = fits.raised;
+            noted = All-nil (λ x. x < n);
+            looks = fits.looks;
+            known = fits.known;
+            informed = fits.informed;
+            advances = fits.advances;
+            keeps = fits.keeps;
+            near = fits.near;
+            owes = fits.owes;
+            promised = fits.promised;
+            marked = fits.marked;
+            plain = fits.plain;
+            idle = fits.idle;
+            free = fits.free;
+          }),
+      (refl, λ i d l. omega (arith, fits.noted i d l, h.in_order, (fits.keeps is).1)),
+    ))
+
 off : false ≡ true → ⊥
 off e = true≢false (sym e)
 
@@ -596,6 +638,29 @@ fits_told o n m k by advances moved =
       free = none.free;
     }
 
+-- a seat that was told what was drawn, alone
+fits_shown : (o n m k by : ℕ) (noted : List ℕ) → All (λ x. x < n) noted → Fits o n m k by (record nobody { noted = noted })
+fits_shown o n m k by noted below =
+    let none = fits_nobody o n m k by in
+    record {
+      since = none.since;
+      drawn = none.drawn;
+      raised = none.raised;
+      noted = below;
+      looks = none.looks;
+      known = none.known;
+      informed = none.informed;
+      advances = none.advances;
+      keeps = none.keeps;
+      near = none.near;
+      owes = none.owes;
+      promised = none.promised;
+      marked = none.marked;
+      plain = none.plain;
+      idle = none.idle;
+      free = none.free;
+    }
+
 -- a view with other parts
 fits_parts : (o n m k by parts : ℕ) (v : View) → Fits o n m k by v → Fits o n m k by (record v { parts = parts })
 fits_parts o n m k by parts v fits = record {
@@ -735,6 +800,31 @@ tells {S} o id v is s h at =
           (omega arith)
           (omega arith)
           (λ draws empty. omega (arith, st.lost id v at draws empty))
+          (λ draws _. absurd (off draws));
+    }
+
+-- a seat that tells what was drawn is split off any seat
+pub shows : {S : Type 0} (o id : ℕ) (v : View) → Splits {S = S} (Ruled o) id v v (draws_of v)
+shows {S} o id v s h at =
+    let st = h.stands in
+    let fits = st.each id v at in
+    record {
+      next = h.next;
+      mark = h.mark;
+      keeper = h.keeper;
+      words = h.words;
+      stands = cuts o h.next h.mark h.keeper s.views id v v (draws_of v) st at
+          (λ x. omega arith)
+          fits
+          (λ by. fits_shown o h.next h.mark h.keeper by (v.noted ++ v.drawn) (All-append (λ x. x < h.next) v.noted v.drawn fits.noted fits.drawn))
+          refl
+          refl
+          refl
+          (omega arith)
+          refl
+          (omega arith)
+          (omega arith)
+          (λ is empty. omega (arith, st.lost id v at is empty))
           (λ draws _. absurd (off draws));
     }
 

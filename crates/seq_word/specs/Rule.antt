@@ -197,6 +197,10 @@ promise_of v = record nobody { promised = max v.owes (above_last v.looks) }
 abbrev pub mark_of : View → View
 mark_of v = record nobody { marked = v.mark }
 
+-- what a seat knows that is split off a drawer's to tell what was drawn there, or noted. It never draws
+abbrev pub draws_of : View → View
+draws_of v = record nobody { noted = v.noted ++ v.drawn }
+
 -- what a seat knows that is split off the keeper's to tell where the counter was moved to. It never draws
 abbrev pub moves_of : View → View
 moves_of v = record nobody { informed = map (λ (a : ℕ × ℕ). a.1) v.advances }
@@ -238,6 +242,10 @@ lifting v mark = record v { mark = mark; lifted = true }
 -- and the counter is there
 abbrev pub advancing : View → ℕ → ℕ → View
 advancing v from to = record v { advances = v.advances ++ (from, to) ∷ []; lifted = false; promised = to }
+
+-- what the keeper was told to have been drawn is forgotten
+abbrev pub forgetting : View → View
+forgetting v = record v { noted = [] }
 
 -- The seat's last look was at the counter, where it found this word, and the one before at a mark above that
 pub record IsLastSeen (word : ℕ) (v : View) : Type 0 where
@@ -286,6 +294,10 @@ module _ {S : Type 0} where
   -- a fetch_max on the counter, to the mark: the word found is noted, with the one that the counter was moved to
   abbrev pub Advances : Step S → Me S View → ℕ → Me S View → Type 0
   Advances st v found w = w ≡ (advancing v.0 found st.first, v.1)
+
+  -- a load of the counter: what the keeper was told to have been drawn is below its mark, and forgotten then
+  abbrev pub Bounds : Step S → Me S View → ℕ → Me S View → Type 0
+  Bounds st v found w = (w ≡ (forgetting v.0, v.1)) × All (λ x. x < v.0.mark) v.0.noted
 
 -- a seat that keeps the mark, isn't moving, has no parts, has drawn and seen nothing, and owes nothing; each of its advances went to SEQ 0
 pub record OnlyKeeps (v : View) : Type 0 where

@@ -76,6 +76,11 @@ pub record IsAbove (v : DrawerView) (word : ℕ) : Type 0 where
   pub known : All (IsPast word) v.known
   pub informed : All (λ x. x ≤ word) v.informed
 
+-- the word is above all that was drawn at the seat, and all that had been drawn before it was split off
+pub record IsBelow (v : DrawerView) (word : ℕ) : Type 0 where
+  pub drawn : All (λ x. x < word) v.drawn
+  pub noted : All (λ x. x < word) v.noted
+
 -- the list begins with these looks
 pub record IsPrefix (front list : List Look) : Type 0 where
   pub rest : List Look

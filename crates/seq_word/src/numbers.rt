@@ -6,7 +6,7 @@ ghost use Rattle.mesh_base.specs.Pairs.{word_of};
 ghost use Rattle.seq_word.specs.Word.{seq_of, IsWord};
 ghost use Rattle.seq_word.specs.declared.looks.Look.TheVariants as saw;
 ghost use Rattle.seq_word.specs.Rule.{IsEndOf, IsWithin, times, once_below, passed_over};
-ghost use Rattle.seq_word.specs.Seen.{fresh, IsAbove, IsEndAbove, IsPrefix, Finds, IsFoundBy, HasCause, SameDrawn, AfterLost, miss_of, split_from, went_to};
+ghost use Rattle.seq_word.specs.Seen.{fresh, IsAbove, IsBelow, IsEndAbove, IsPrefix, Finds, IsFoundBy, HasCause, SameDrawn, AfterLost, miss_of, split_from, went_to};
 
 use crate::closed::Closed;
 use crate::drawer::Drawer;
@@ -14,8 +14,8 @@ use crate::dry::Dry;
 use crate::keeper::Keeper;
 use crate::miss::{DrawStop, Miss};
 use crate::rule::{
-    Advances, COUNTER, Draws, Informs, Lifts, MARK, Opening, Opens, Promises, Publishes, Seats,
-    SeesMark, SeesNext, Tells, Words,
+    Advances, Bounds, COUNTER, Draws, Informs, Lifts, MARK, Opening, Opens, Promises, Publishes,
+    Seats, SeesMark, SeesNext, Shows, Tells, Words,
 };
 use crate::word::{BLOCK, SPENT_SEQ, WORDS_PER_IV, pair_of};
 use atomic_table::Table;
@@ -201,16 +201,21 @@ impl Numbers {
         words.fetch_max::<Advances>(&mut k.seat, COUNTER, to);
     }
 
-    /// Tells a seat that draws where the keeper has moved the counter to so far: what it draws from now on isn't below that (`above` of `draw`). It
-    /// takes no memory, and changes neither word: all that runs is two loads of the counter, whose words nothing uses.
+    /// Tells a seat that draws where the keeper has moved the counter to so far: what it draws from now on isn't below that (`above` of `draw`), and
+    /// what it has drawn, or noted, is below the keeper's mark (`below`). It takes no memory, and changes neither word: all that runs is five loads of
+    /// the counter, whose words nothing uses.
     pub fn inform(&self, k: &mut Keeper, d: &mut Drawer)
         requires made { k.old.which ≡ self.now.which }
         requires drawer_made { d.old.which ≡ self.now.which }
 
         ensures keeper { k.new ≡ k.old }
         ensures informed { d.new ≡ record d.old { informed = d.old.informed ++ went_to k.old.advances } }
+        ensures below { IsBelow d.old k.old.mark }
     {
         let words = &self.table.shared;
+        let shown = words.split_seat::<Shows>(&mut d.seat);
+        words.join_seat::<Seats>(&mut k.seat, shown);
+        let _ = words.load::<Bounds>(&mut k.seat, COUNTER);
         let seat = words.split_seat::<Informs>(&mut k.seat);
         words.join_seat::<Seats>(&mut d.seat, seat);
     }

@@ -1,6 +1,6 @@
 //! The rule of the two words, as `atomic_table` takes it. The definitions stand in `specs/Rule.antt`.
 //!
-//! There are eleven kinds of atomic step. Each changes the view of the seat that takes it, and a join that of the other seat too.
+//! There are thirteen kinds of atomic step. Each changes the view of the seat that takes it, and a join that of the other seat too.
 //!
 //! | Step | Seat | What its view notes |
 //! |---|---|---|
@@ -13,6 +13,8 @@
 //! | a split | a drawer | it has one part less; the new seat has that, notes all that was drawn here, or noted, and knows the looks here, or known. At the start the keeper's seat hands all its parts to the first drawer |
 //! | a split of a promise | a drawer | that it owes the word above the one that it found in the counter last; the new seat knows that this is promised, and can't draw |
 //! | a split of the mark | the keeper | nothing; the new seat knows that the mark isn't below this one, and can't draw |
+//! | a split of the draws | a drawer | nothing; the new seat notes all that was drawn here, or noted, and can't draw |
+//! | a load of the counter | the keeper | that it forgets what it was told to have been drawn, all of which is below its mark |
 //! | a split of the moves | the keeper | nothing; the new seat knows where the counter was moved to, and can't draw |
 //! | a join | a drawer, or the keeper | all that the other seat knows, and its parts; at the end also the keeper's mark. The other seat is left knowing nothing |
 #![tactic(auto)]
@@ -137,6 +139,15 @@ impl Play<u8, View> for Advances {
     ghost then = { rule.Advances };
 }
 
+/// A load of the counter by the keeper.
+pub struct Bounds;
+
+impl Play<u8, View> for Bounds {
+    ghost use Rattle.seq_word.specs.Rule as rule;
+
+    ghost then = { rule.Bounds };
+}
+
 /// How the first drawer's seat is cut off the keeper's.
 pub struct Opens;
 
@@ -168,6 +179,17 @@ impl Split<View> for Tells {
     ghost left = { λ v. v };
 
     ghost right = { mark_of };
+}
+
+/// How a seat that tells what was drawn is cut off a drawer's.
+pub struct Shows;
+
+impl Split<View> for Shows {
+    ghost use Rattle.seq_word.specs.Rule.{draws_of};
+
+    ghost left = { λ v. v };
+
+    ghost right = { draws_of };
 }
 
 /// How a seat that tells where the counter was moved to is cut off the keeper's.

@@ -5,7 +5,7 @@ use Rattle.node_records.specs.Tables.{config_in}
 use Rattle.node_store.specs.Tie.{IsPut}
 use Rattle.node_store.specs.Writing.{CutLeaves, Puts}
 use Rattle.record_types.specs.declared.records.StoreRecord.{StoreRecord}
-use Rattle.event_storing.proofs.Moves.{advanced_none, advanced_some, said_move, said_none}
+use Rattle.event_storing.proofs.Moves.{advanced_none, advanced_some, risen_none, risen_some, said_move, said_none}
 use Rattle.event_storing.proofs.one.store_one.Goals as goal
 
 pub move_iv-requires-clause-transmit : goal.move_iv-requires-clause-transmit
@@ -49,6 +49,13 @@ returns-in-Some-clause-advanced g c =
     advanced_some c.move_iv.result (config_in p) c.args.reserve.now.keeper c.move_iv.new.self.keeper c.args.item.now to (sym c.state.ensures.value ∙ c.in-Some.is) move.rises
     c.move_iv.ensures.stays c.move_iv.ensures.advanced
 
+pub returns-in-Some-clause-risen : goal.returns-in-Some-clause-risen
+returns-in-Some-clause-risen g c =
+    let p = c.args.reserve.now.store.persist in
+    let to = c.in-Some.to in
+    let move : IsMoveTo (config_in p) to c.args.item.now = said_move (config_in p) c.args.item.now to (sym c.state.ensures.value ∙ c.in-Some.is) c.requires.moves in
+    risen_some c.move_iv.result (config_in p) c.args.reserve.now.keeper c.move_iv.new.self.keeper to move.rises c.move_iv.ensures.stays c.move_iv.ensures.advanced
+
 pub returns-in-Some-clause-cut : goal.returns-in-Some-clause-cut
 returns-in-Some-clause-cut g c =
     let p = c.args.reserve.now.store.persist in
@@ -65,3 +72,7 @@ pub returns-in-None-clause-advanced : goal.returns-in-None-clause-advanced
 returns-in-None-clause-advanced g c =
     advanced_none c.put_other.result (config_in c.args.reserve.now.store.persist) c.args.reserve.now.keeper c.put_other.new.reserve.keeper c.args.item.now
     (sym c.state.ensures.value ∙ c.in-None.is) c.put_other.ensures.keeper
+
+pub returns-in-None-clause-risen : goal.returns-in-None-clause-risen
+returns-in-None-clause-risen g c =
+    risen_none c.put_other.result (config_in c.args.reserve.now.store.persist) c.args.reserve.now.keeper c.put_other.new.reserve.keeper c.put_other.ensures.keeper

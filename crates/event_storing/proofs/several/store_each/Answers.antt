@@ -1,4 +1,4 @@
-use Rattle.std.proofs.Common.{◌≡◌, ℕ, ◌+◌, ◌<◌, ◌∙◌, ◌++◌, length, take, refl, sym, subst, arith, true≢false}
+use Rattle.std.proofs.Common.{◌≡◌, ℕ, ◌+◌, ◌<◌, ◌∙◌, ◌++◌, length, take, refl, sym, subst, inl, arith, true≢false}
 use Rattle.std.proofs.lemmas.List.{append-nil}
 use Rattle.event_storing.specs.Storing.{moved_to}
 use Rattle.flash_model.specs.Chip.{count_of}
@@ -12,6 +12,7 @@ use Rattle.seq_reserve.proofs.Keeping.{durable_of}
 use Rattle.store_definitions.specs.Wear.{CostsAndUses}
 use Rattle.store_definitions.proofs.Wear.{at_most_more, at_most_of, at_most_of_more, paid_more, paid_none}
 use Rattle.event_storing.proofs.Loops.{next_may, next_moves, rest_moves, words_all, words_more}
+use Rattle.event_storing.proofs.Moves.{risen_more}
 use Rattle.event_storing.proofs.several.store_each.Goals as goal
 
 pub loop-item-init : goal.loop-item-init
@@ -30,6 +31,7 @@ loop-item-init g c =
       config = refl;
       value = λ records meaning. value_none records c.args.items.now reserve.store.persist meaning;
       advanced = sym (append-nil (moved_to reserve.keeper));
+      risen = inl refl;
       fronts = λ records tie. fronts_none chip reserve.store records c.args.items.now tie (laws.only_now flash);
       durable = λ records tie. subst (λ n. IsDurable chip n) (sym c.requires.published) (durable_of chip reserve.store records tie);
       calls = λ room. put_none chip reserve.store (laws.counted flash) (laws.counted_erases flash) (laws.counted_octets flash);
@@ -63,6 +65,7 @@ loop-item-preserved g c =
       value = λ records meaning. value_more items i _ less records store.persist after.persist (before.value records meaning) put.puts.value;
       advanced = words_more items i _ less (config_in first.persist) (config_in store.persist) (moved_to c.args.reserve.now.keeper) (moved_to c.loop-item.reserve.keeper)
           (moved_to c.store_one.new.reserve.keeper) before.config before.advanced put.advanced;
+      risen = risen_more c.args.reserve.now.keeper c.loop-item.reserve.keeper c.store_one.new.reserve.keeper before.risen put.risen;
       fronts = λ records tie.
           let fronts = before.fronts records tie in
           let all = records ++ take i items in

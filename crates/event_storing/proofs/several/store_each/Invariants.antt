@@ -1,7 +1,7 @@
 use Rattle.std.proofs.Common.{◌≡◌, ◌+◌, ◌≤◌, List, ◌++◌, false}
 use Rattle.std.specs.Prelude.{length, take, drop, fold}
 use Rattle.event_records.specs.Putting.{AreMoves, ArePuttable}
-use Rattle.event_storing.specs.Storing.{advances_of, moved_to}
+use Rattle.event_storing.specs.Storing.{HasRisen, advances_of, moved_to}
 use Rattle.flash_model.specs.Chip.{Keeps, count_of}
 use Rattle.record_types.specs.declared.records.StoreRecord.{StoreRecord}
 use Rattle.node_records.specs.Meaning.{IsMeaningOf}
@@ -24,6 +24,7 @@ invariant-loop-item g l = record {
   config : config_in l.reserve.store.persist ≡ fold changed (config_in l.initial.reserve.store.persist) (take l.item-index l.items);
   value : (records : List StoreRecord) → IsMeaningOf records l.initial.reserve.store.persist → IsMeaningOf (records ++ take l.item-index l.items) l.reserve.store.persist;
   advanced : moved_to l.reserve.keeper ≡ moved_to l.initial.reserve.keeper ++ advances_of (config_in l.initial.reserve.store.persist) (take l.item-index l.items);
+  risen : HasRisen l.initial.reserve.keeper l.reserve.keeper;
   fronts : (records : List StoreRecord) → IsStoreOf (g.F.Flash.chip l.initial.flash) l.initial.reserve.store records → Fronts (g.F.Flash.chip l.initial.flash) l.initial.reserve.store records l.items l.item-index (g.F.Flash.chip l.flash) l.reserve.store;
   durable : (records : List StoreRecord) → IsStoreOf (g.F.Flash.chip l.initial.flash) l.initial.reserve.store records → IsDurable (g.F.Flash.chip l.flash) l.reserve.keeper.mark;
   calls : l.initial.reserve.store.journal.used + length l.items ≤ 1023 → HasPut l.item-index (g.F.Flash.chip l.initial.flash) (g.F.Flash.chip l.flash) l.initial.reserve.store l.reserve.store;

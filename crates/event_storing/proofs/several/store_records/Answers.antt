@@ -1,4 +1,4 @@
-use Rattle.std.proofs.Common.{◌≡◌, ◌+◌, ◌*◌, ◌≤◌, List, [], sym, subst}
+use Rattle.std.proofs.Common.{◌≡◌, ◌+◌, ◌≤◌, List, [], sym, subst}
 use Rattle.std.specs.Prelude.{length, OnOk}
 use Rattle.flash_model.specs.Chip.{count_of}
 use Rattle.node_store.specs.Calls.{only_slots}

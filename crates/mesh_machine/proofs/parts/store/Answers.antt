@@ -24,6 +24,7 @@ returns-clause-stored g c =
       made = c.store_records.ensures.made;
       moved = c.in_ok-store_records.ensures.advanced
           ∙ ap (λ l. went_to c.args.parts.now.reserve.keeper.advances ++ l) (advances_are (config_in c.args.parts.now.reserve.store.persist) c.args.records.now);
+      risen = c.in_ok-store_records.ensures.risen;
       keys = subst (λ (q : Persist). IsFit c.renew.new.tables.hearing q) c.persist.ensures.value c.renew.ensures.fit;
       tables = c.renew.ensures.tables;
       models = c.renew.ensures.unchanged;

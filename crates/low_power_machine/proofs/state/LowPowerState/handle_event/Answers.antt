@@ -1,4 +1,4 @@
-use Rattle.std.proofs.Common.{◌≡◌, ℕ, ◌+◌, ◌-◌, ◌<◌, ◌^◌, true, List, [], ◌∷◌, ◌++◌, length, refl, ap, sym, subst, ◌∙◌, arith}
+use Rattle.std.proofs.Common.{◌≡◌, ◌⊎◌, ℕ, ◌+◌, ◌-◌, ◌<◌, ◌^◌, true, List, [], ◌∷◌, ◌++◌, length, refl, ap, sym, subst, ◌∙◌, arith}
 use Rattle.std.specs.Prelude.{All}
 use Rattle.std.specs.List.{flat_map}
 use Rattle.std.specs.Option.{option_to_list}
@@ -20,12 +20,12 @@ use Rattle.low_power_machine.specs.declared.plan.Plan.{Plan}
 use Rattle.low_power_role.specs.Role.{jobs_under}
 use Rattle.low_power_role.specs.State.{event_calls, state_of}
 use Rattle.machine_contract.specs.Moves.{rises}
-use Rattle.seq_word.specs.Seen.{last_word, went_to}
+use Rattle.seq_word.specs.Seen.{KeeperView, last_word, went_to}
 use Rattle.machine_contract.specs.Ranges.{IsJob}
 use Rattle.machine_contract.specs.Refused.{Closes}
 use Rattle.machine_contract.specs.declared.answers.Answered.{Answered}
 use Rattle.machine_contract.specs.declared.answers.Hand.TheVariants as H
-use Rattle.machine_standing.proofs.Moved.{advances_are}
+use Rattle.machine_standing.proofs.Moved.{advances_are, risen_so}
 use Rattle.machine_standing.specs.Ties.{IsReadyBy}
 use Rattle.mesh_types.specs.declared.events.Event.{Event}
 use Rattle.mesh_types.specs.declared.history.Entry.{Entry}
@@ -119,6 +119,12 @@ invariant_of-self-2 g c e =
       wear = subst (λ (l : List StoreRecord). CostsAndUses i.reserve.store.journal.used (length l) (count_of old) (count_of new) r.store.journal.used) records (c.in-Ok.ensures.wear ready.usable);
     } in
     ready_made m event plan memory r log entry old new made c.node_law.ensures.kept c.low_power_state_law.ensures.goes_on ready
+
+pub returns-clause-risen : goal.returns-clause-risen
+returns-clause-risen g c =
+    let k : KeeperView = c.store_records.new.reserve.keeper in
+    subst (λ (v : LowPowerNode). (k.advances ≡ v.reserve.keeper.advances) ⊎ (k.mark ≡ last_word (went_to k.advances))) c.self.view_is
+    (risen_so c.self.inside.reserve.keeper k c.in-Ok.ensures.risen)
 
 pub returns-clause-jobs : goal.returns-clause-jobs
 returns-clause-jobs g c =

@@ -5,5 +5,6 @@ pub returns : goal.returns
 returns g c = record {
   known = λ first f over m s. s.life;
   moved = λ first f over m s runs. record { told = s.life.told; are = s.life.entries; handled = s.life.handled; moved = s.moved runs };
+  last = λ first f over m s runs. s.last runs;
   quiet = λ past ticks q. quiet_tick past ticks q;
 }

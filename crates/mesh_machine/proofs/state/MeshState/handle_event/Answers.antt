@@ -1,4 +1,4 @@
-use Rattle.std.proofs.Common.{◌≡◌, true, ◌++◌, length, ap, sym, subst, ◌∙◌}
+use Rattle.std.proofs.Common.{◌≡◌, ◌⊎◌, true, ◌++◌, length, ap, sym, subst, ◌∙◌}
 use Rattle.event_plans.specs.Plans.{IsPlanned, insight_in}
 use Rattle.event_records.specs.Putting.{AreMoves}
 use Rattle.event_world.specs.Stepping.{HasStepped}
@@ -20,7 +20,8 @@ use Rattle.node_records.specs.Tables.{config_in}
 use Rattle.node_records.specs.declared.persist.Persist.{Persist}
 use Rattle.event_definitions.specs.History.{Insight}
 use Rattle.event_definitions.specs.Stores.{stores}
-use Rattle.seq_word.specs.Seen.{last_word, went_to}
+use Rattle.machine_standing.proofs.Moved.{risen_so}
+use Rattle.seq_word.specs.Seen.{KeeperView, last_word, went_to}
 use Rattle.store_world.specs.Standing.{IsWorldOf}
 use Rattle.mesh_machine.proofs.state.MeshState.handle_event.Goals as goal
 
@@ -85,6 +86,13 @@ returns-in-Ok-clause-place g c =
     let a = c.in-Ok.answered in
     let d = c.in-Ok.ensures.done in
     subst (λ (v : NodeMachine). a.at ≡ length v.entries) (same ∙ c.self.view_is) d.among
+
+pub returns-in-Ok-clause-risen : goal.returns-in-Ok-clause-risen
+returns-in-Ok-clause-risen g c =
+    let i = c.self.inside in
+    let k : KeeperView = c.handle.new.parts.reserve.keeper in
+    subst (λ (v : NodeMachine). (k.advances ≡ v.reserve.keeper.advances) ⊎ (k.mark ≡ last_word (went_to k.advances))) c.self.view_is
+    (risen_so i.parts.reserve.keeper k c.in-Ok.ensures.done.stored.risen)
 
 pub returns-in-Ok-clause-jobs : goal.returns-in-Ok-clause-jobs
 returns-in-Ok-clause-jobs g c =

@@ -1,15 +1,51 @@
-use Rattle.std.proofs.Common.{sym, ap, ◌∙◌, arith}
-use Rattle.seq_word.proofs.Moves.{informs, joins}
+use Rattle.std.proofs.Common.{◌≡◌, ◌<◌, ◌++◌, ◌||◌, sym, ap, ◌∙◌, subst, arith}
+use Rattle.std.specs.Prelude.{All}
+use Rattle.seq_word.specs.Rule.{both}
+use Rattle.seq_word.proofs.Moves.{all_of_both, shows, bounds, informs, joins}
 use Rattle.seq_word.proofs.numbers.Numbers.inform.Goals as goal
 
-pub split_seat-seat-requires : goal.split_seat-seat-requires
-split_seat-seat-requires c =
-    let own = ap (λ k. k.which) c.k.view_is ∙ c.requires.made ∙ sym (ap (λ n. n.which) c.self.view_is) in
-    (own, omega (arith, c.self.invariant.0), informs _ _ _)
+pub split_seat-shown-requires : goal.split_seat-shown-requires
+split_seat-shown-requires c =
+    let own = ap (λ d. d.which) c.d.view_is ∙ c.requires.drawer_made ∙ sym (ap (λ n. n.which) c.self.view_is) in
+    (own, omega (arith, c.self.invariant.0), shows _ _ _)
 
 pub join_seat-requires : goal.join_seat-requires
 join_seat-requires c =
-    let own = ap (λ d. d.which) c.d.view_is ∙ c.requires.drawer_made ∙ sym (ap (λ n. n.which) c.self.view_is) in
-    let keepers = ap (λ k. k.which) c.k.view_is ∙ c.requires.made ∙ sym (ap (λ n. n.which) c.self.view_is) in
+    let own = ap (λ k. k.which) c.k.view_is ∙ c.requires.made ∙ sym (ap (λ n. n.which) c.self.view_is) in
+    let drawers = ap (λ d. d.which) c.d.view_is ∙ c.requires.drawer_made ∙ sym (ap (λ n. n.which) c.self.view_is) in
+    let shown = c.split_seat-shown.ensures in
+    (own, shown.3 ∙ drawers, ap (λ m. m.1) shown.4, omega (arith, c.self.invariant.0), joins _ _ _ _ _)
+
+pub load-requires : goal.load-requires
+load-requires c =
+    let own = c.join_seat.ensures.0 ∙ ap (λ k. k.which) c.k.view_is ∙ c.requires.made ∙ sym (ap (λ n. n.which) c.self.view_is) in
+    let keeps = ap (λ m. m.0.keeps) c.join_seat.ensures.2 ∙ ap (λ b. b || c.split_seat-shown.result.me.0.keeps) c.k.invariant.0.keeps in
+    (own, omega (arith, c.self.invariant.0), bounds _ _ _ _ keeps)
+
+pub split_seat-seat-requires : goal.split_seat-seat-requires
+split_seat-seat-requires c =
+    let own = c.load.ensures.0 ∙ c.join_seat.ensures.0 ∙ ap (λ k. k.which) c.k.view_is ∙ c.requires.made ∙ sym (ap (λ n. n.which) c.self.view_is) in
+    (own, omega (arith, c.self.invariant.0), informs _ _ _)
+
+pub join_seat-requires-2 : goal.join_seat-requires-2
+join_seat-requires-2 c =
+    let own = c.split_seat-shown.ensures.0 ∙ ap (λ d. d.which) c.d.view_is ∙ c.requires.drawer_made ∙ sym (ap (λ n. n.which) c.self.view_is) in
+    let keepers = c.load.ensures.0 ∙ c.join_seat.ensures.0 ∙ ap (λ k. k.which) c.k.view_is ∙ c.requires.made ∙ sym (ap (λ n. n.which) c.self.view_is) in
     let told = c.split_seat-seat.ensures in
     (own, told.3 ∙ keepers, ap (λ m. m.1) told.4, omega (arith, c.self.invariant.0), joins _ _ _ _ _)
+
+-- what the keeper was told to have been drawn or noted is below its mark
+pub returns-clause-below : goal.returns-clause-below
+returns-clause-below c =
+    let v = c.k.inside.seat.me.0 in
+    let d = c.d.inside.seat.me.0 in
+    let shown = ap (λ m. m.0) c.split_seat-shown.ensures.4 in
+    let met = c.join_seat.new.seat.me.0 in
+    let mark : met.mark ≡ c.args.k.now.mark = ap (λ m. m.0.mark) c.join_seat.ensures.2 ∙ ap (λ w. (both v w).mark) shown ∙ ap (λ k. k.mark) c.k.view_is in
+    let noted : met.noted ≡ d.noted ++ d.drawn = ap (λ m. m.0.noted) c.join_seat.ensures.2 ∙ ap (λ w. (both v w).noted) shown ∙ ap (λ l. l ++ (d.noted ++ d.drawn)) c.k.invariant.0.noted in
+    let bound : All (λ x. x < c.args.k.now.mark) (d.noted ++ d.drawn) = subst (λ m. All (λ x. x < m) (d.noted ++ d.drawn)) mark (subst (All (λ x. x < met.mark)) noted c.load.ensures.2.1) in
+    let each = all_of_both (λ x. x < c.args.k.now.mark) d.noted d.drawn bound in
+    record {
+      drawn = subst (λ y. All (λ x. x < c.args.k.now.mark) y.drawn) c.d.view_is each.1;
+      noted = subst (λ y. All (λ x. x < c.args.k.now.mark) y.noted) c.d.view_is each.0;
+    }

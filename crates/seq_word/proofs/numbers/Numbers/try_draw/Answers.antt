@@ -1,4 +1,4 @@
-use Rattle.std.proofs.Common.{[], ◌∷◌, ◌++◌, append_assoc, refl, sym, ap, subst, ◌∙◌, arith}
+use Rattle.std.proofs.Common.{[], ◌∷◌, ◌++◌, append_assoc, sym, ap, ◌∙◌, arith}
 use Rattle.seq_word.specs.declared.looks.Look.TheVariants as saw
 use Rattle.seq_word.proofs.Moves.{draws}
 use Rattle.seq_word.proofs.numbers.Numbers.try_draw.Goals as goal
