@@ -1,5 +1,5 @@
 -- What holds of a node behind a call of its machine: no refill was stored before there was a job that draws.
-use Rattle.std.proofs.Common.{◌≡◌, ◌∙◌, ◌≤◌, ℕ, zero, suc, true, false, true≢false, List, [], ◌∷◌, ◌++◌, Some, refl, sym, ap, subst}
+use Rattle.std.proofs.Common.{◌≡◌, ◌∙◌, ◌≤◌, ℕ, zero, suc, true, false, true≢false, List, [], ◌∷◌, ◌++◌, length, Some, refl, sym, ap, subst}
 use Rattle.std.specs.Prelude.{All, slice_get}
 use Rattle.std.proofs.lemmas.List.Elements.{All-head, All-tail}
 use Rattle.flash_model.proofs.Runs.{past_more}
@@ -42,8 +42,8 @@ asked_behind (x ∷ es) (y ∷ moves) zero e move is draws m n h =
 asked_behind (x ∷ es) [] (suc at) e move is draws m n h = (h.0, λ none. asked_behind es [] at e move is draws m n (h.1 none))
 asked_behind (x ∷ es) (y ∷ moves) (suc at) e move is draws m n h = (h.0, λ none. asked_behind es moves at e move is draws m n (h.1 none))
 
-pub asked_more : (es : List Entry) (moves : List ℕ) (stops : ℕ) (hand : Hand) → stops ≡ 0 → WasAsked (marks_of es moves stops hand) → (m n : ℕ) → AreAsked es m → AreAsked es n
-asked_more es moves stops hand none w m n h =
+pub asked_more : (before : ℕ) (es : List Entry) (moves : List ℕ) (stops : ℕ) (hand : Hand) → stops ≡ 0 → WasAsked before (marks_of es moves stops hand) → (m n : ℕ) → AreAsked es m → AreAsked es n
+asked_more before es moves stops hand none w m n h =
     let here = subst (λ k. slice_get (marks_of es moves k hand) w.at ≡ Some (M.Handled w.entry w.move)) none w.here in
     asked_behind es moves w.at w.entry w.move here (draws_here w.entry.jobs w.place w.job w.has w.draws) m n h
 
@@ -51,9 +51,9 @@ asked_more es moves stops hand none w m n h =
 pub holds_on : {M F : Type 0} (stands : FlashFound → Chip → List StoreRecord → M → Type 0) (view : M → MachineView) (chip : F → Chip) (old new : M) (start flash after : F) (stops : ℕ)
     → Holds stands view chip old start flash stops → (view old).closed ≡ false → (view new).closed ≡ (view old).closed
     → Keeps (chip flash) (chip after) → (chip after).faults ≡ (chip flash).faults
-    → ((first : FlashFound) (over : List StoreRecord) → stands first (chip flash) over old → stands first (chip after) over new) → AreAsked (view new).entries (view new).fills
+    → ((first : FlashFound) (over : List StoreRecord) → stands first (chip flash) over old → stands first (chip after) over new) → AreAsked (view new).entries (view new).fills → (view new).taken ≤ length (view new).entries
     → Holds stands view chip new start after stops
-holds_on stands view chip old new start flash after stops h off same keeps faults kept asked = record {
+holds_on stands view chip old new start flash after stops h off same keeps faults kept asked taken = record {
   over = h.over;
   read = h.read;
   tie = kept (found_of (chip start)) h.over h.tie;
@@ -69,4 +69,5 @@ holds_on stands view chip old new start flash after stops h off same keeps fault
     past = past_more (chip start) (chip flash) (chip after) h.later.past keeps.past;
   };
   asked = asked;
+  taken = taken;
 }

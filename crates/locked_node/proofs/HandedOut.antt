@@ -34,6 +34,7 @@ module _ {M F : Type 0} (stands : FlashFound → Chip → List StoreRecord → M
       past = past_more (chip start) (chip old) (chip new) h.later.past (record { later = omega (arith, handed.moment); keeps = λ t c le since. handed.keeps t c since });
     };
     asked = h.asked;
+    taken = h.taken;
   }
 
 -- it holds of what was borrowed

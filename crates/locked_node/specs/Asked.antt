@@ -1,5 +1,5 @@
 -- That a life stores no refill before there is a job that draws.
-use Rattle.std.specs.Prelude.{◌≡◌, ℕ, true, false, List, [], ◌∷◌, All, Some, slice_get}
+use Rattle.std.specs.Prelude.{◌≡◌, ◌≤◌, ℕ, true, false, List, [], ◌∷◌, All, Some, slice_get}
 use Rattle.mesh_types.specs.declared.history.Entry.{Entry}
 use Rattle.mesh_types.specs.declared.jobs.Job.{Job}
 use Rattle.run_definitions.specs.Lines.{is_drawing}
@@ -15,9 +15,10 @@ abbrev pub AreAsked : List Entry → ℕ → Type 0
 AreAsked [] fills = fills ≡ 0
 AreAsked (e ∷ entries) fills = (e.fills ≡ 0) × (DrawsNone e → AreAsked entries fills)
 
--- among the entries of the lock is one that has a job that draws
-pub record WasAsked (marks : List Mark) : Type 0 where
+-- behind so many entries of the lock is one that has a job that draws
+pub record WasAsked (before : ℕ) (marks : List Mark) : Type 0 where
   pub at : ℕ
+  pub since : before ≤ at
   pub entry : Entry
   pub move : ℕ
   pub here : slice_get marks at ≡ Some (M.Handled entry move)

@@ -1,7 +1,7 @@
 -- The value behind the lock as contracts see it, and its entries.
-use Rattle.std.specs.Prelude.{◌≡◌, ◌⊎◌, ℕ, zero, suc, List, [], ◌∷◌, ◌++◌, map, replicate, Option, Some, None, ⊤}
-use Rattle.std.specs.List.{Contains}
-use Rattle.std.specs.Option.{option_map}
+use Rattle.std.specs.Prelude.{◌≡◌, ◌⊎◌, ℕ, zero, suc, List, [], ◌∷◌, ◌++◌, replicate, Option, Some, None, ⊤}
+use Rattle.std.specs.List.{Contains, slice_get}
+use Rattle.std.specs.Option.{option_map, option_map_or}
 use Rattle.flash_model.specs.Chip.{Arm, Chip}
 use Rattle.mesh_types.specs.declared.events.Event.{Event}
 use Rattle.mesh_types.specs.declared.history.Entry.{Entry}
@@ -49,6 +49,16 @@ marks_of entries moves stops hand = handled_marks entries moves ++ stop_marks st
 abbrev pub node_marks : {F : Type 0} → NodeView F → List Mark
 node_marks n = marks_of n.machine.entries n.machine.moves n.stops n.machine.hand
 
+-- so many refills were stored; it isn't told where a call that failed had one in hand
+abbrev pub fills_by : ℕ → Hand → Option ℕ
+fills_by fills H.Nothing = Some fills
+fills_by fills (H.OfEvent event) = Some fills
+fills_by fills H.OfRefill = None
+
+-- the refills behind the entries that were taken and before the next, if none of them is in hand
+abbrev pub refills_behind : MachineView → Option ℕ
+refills_behind m = option_map_or (λ e. Some e.fills) (slice_get m.entries m.taken) (fills_by m.fills m.hand)
+
 abbrev pub armed_by : Arm → Armed
 armed_by a = record { calls = a.calls; mask = a.mask; changes = a.changes }
 
@@ -57,6 +67,7 @@ origin_of chip n = record {
   start = n.start;
   numbers = record { which = n.machine.which; opened = 0 };
   taken = n.machine.taken;
+  fills = refills_behind n.machine;
   elements = n.machine.elements;
   arm = option_map armed_by (chip n.flash).setting.arm;
   saved = (chip n.flash).setting.saved;

@@ -1,5 +1,5 @@
 -- What holds of the value behind the lock whenever the lock is free.
-use Rattle.std.specs.Prelude.{◌≡◌, ℕ, ◌<◌, ◌≤◌, ◌^◌, true, false, List}
+use Rattle.std.specs.Prelude.{◌≡◌, ℕ, ◌<◌, ◌≤◌, ◌^◌, true, false, List, length}
 use Rattle.flash_model.specs.Chip.{Chip, Remembers}
 use Rattle.machine_contract.specs.Idle.{IsDueIn, IsIdleFor}
 use Rattle.machine_contract.specs.Opening.{FlashFound, found_of}
@@ -34,6 +34,7 @@ pub record Holds {M F : Type 0} (stands : FlashFound → Chip → List StoreReco
   pub no_fault : (view machine).closed ≡ false → (chip flash).faults ≡ (chip start).faults
   pub later : IsLater (chip start) (chip flash)
   pub asked : AreAsked (view machine).entries (view machine).fills
+  pub taken : (view machine).taken ≤ length (view machine).entries
 
 -- the same as a caller sees it
 pub record IsNode {F : Type 0} (role : Role) (image : List ℕ → Type 0) (chip : F → Chip)
@@ -48,6 +49,8 @@ pub record IsNode {F : Type 0} (role : Role) (image : List ℕ → Type 0) (chip
   pub later : IsLater (chip n.start) (chip n.flash)
   -- no refill was stored before there was a job that draws
   pub asked : AreAsked n.machine.entries n.machine.fills
+  -- no more entries were taken than there are
+  pub taken : n.machine.taken ≤ length n.machine.entries
 
 -- A machine that shows this stands over the flash, as the life found it and as it is, and over the records that the life found.
 pub record HasMachine {M F : Type 0} (stands : FlashFound → Chip → List StoreRecord → M → Type 0) (view : M → MachineView)

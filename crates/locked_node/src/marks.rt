@@ -32,6 +32,8 @@ pub struct Origin<F> {
     pub numbers: Numbers,
     /// How many entries of the history were taken before.
     pub taken: u64,
+    /// How many refills were stored behind those and before the next, where none was in hand.
+    pub fills: Option<u64>,
     /// The elements of the node.
     pub elements: u64,
     /// The order that the flash was given.

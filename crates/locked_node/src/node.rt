@@ -1,11 +1,11 @@
 //! The value behind the lock.
 #![tactic(auto)]
 
-ghost use Rattle.std.specs.Prelude.{◌≡◌, ◌≢◌, ℕ, ◌+◌, ◌<◌, ◌^◌, List, [], ◌∷◌, ◌++◌, length, drop, All, true, false, None, Some, Ok, Err, IfOk, OnOk, IfErr, IsTrue, max, OnErr};
+ghost use Rattle.std.specs.Prelude.{◌≡◌, ◌≢◌, ℕ, ◌+◌, ◌<◌, ◌≤◌, ◌^◌, ◌⊎◌, List, [], ◌∷◌, ◌++◌, length, drop, All, true, false, None, Some, Ok, Err, IfOk, OnOk, IfErr, IsTrue, max, OnErr};
 ghost use Rattle.flash_model.specs.Chip.{Chip, KeepsCount};
 ghost use Rattle.record_types.specs.declared.records.StoreRecord.{StoreRecord};
 ghost use Rattle.run_definitions.specs.Order.{is_outside};
-ghost use Rattle.seq_word.specs.Seen.{IsFoundBy, last_word};
+ghost use Rattle.seq_word.specs.Seen.{IsBelow, IsFoundBy, last_word};
 ghost use Rattle.seq_word.specs.Word.{seq_of};
 ghost use Rattle.store_definitions.specs.Recovered.{IsRecovered};
 ghost use Rattle.turn_lock.specs.Entries.{IsPrefix};
@@ -90,6 +90,7 @@ impl<M: Machine, F: Flash + Send + Drop> Node<M, F> {
         requires later { IsLater (F.chip start) (F.chip flash) }
         requires no_fault { (F.chip flash).faults ≡ (F.chip start).faults }
         requires asked { AreAsked (M.view machine).entries (M.view machine).fills }
+        requires taken { (M.view machine).taken ≤ length (M.view machine).entries }
         ensures value { IfOk result
             (λ node. node ≡ record { machine = M.view machine; start = start; flash = flash; stops = 0 }) }
     {
@@ -138,6 +139,11 @@ impl<M: Machine, F: Flash + Send + Drop> Node<M, F> {
         ensures more { IsPrefix drawer.old.informed drawer.new.informed }
         ensures drawer { drawer.new ≡ record drawer.old { informed = drawer.new.informed } }
         ensures place { IfOk result (λ r. r.at ≡ length (node_marks self.old)) }
+        ensures since { IfOk result (λ r. self.old.machine.taken ≤ r.at) }
+        // Where the counter was moved with this event, all that the seat had drawn, or noted, is below where it was moved to.
+        ensures until { OnOk result
+            ((last_word self.new.machine.moves ≡ last_word self.old.machine.moves)
+            ⊎ IsBelow drawer.old (last_word self.new.machine.moves)) }
         ensures fills { OnOk result (self.new.machine.fills ≡ 0) }
         ensures jobs { IfOk result (λ r. All (IsJob event.now) r.jobs) }
         ensures quiet { is_outside event.now ≡ false → IfOk result (λ r. All IsQuiet r.jobs) }
@@ -148,7 +154,7 @@ impl<M: Machine, F: Flash + Send + Drop> Node<M, F> {
             return Err(Stop::Memory);
         }
         let held = &mut *self.held;
-        // It does nothing when it runs: the proof uses what it says.
+        // It does nothing when it runs: the proof uses what it says of the machine as it is before.
         M::tells::<F>();
         match held
             .machine
@@ -175,8 +181,8 @@ impl<M: Machine, F: Flash + Send + Drop> Node<M, F> {
     ///
     /// It takes what the draw answered: so for each time that a bearer reached the mark, one refill is stored at most, and none without a look
     /// at it; and the mark is at most 256 above the counter when the words are closed (`near` of `close` in `seq_word`). The bearer's seat owes a draw
-    /// behind the mark once that is published (`owes`), else it stays as it is. It is asked for only where an entry has a job that draws (`asked`): so
-    /// a life stores none before that, as `known` tells.
+    /// behind the mark once that is published (`owes`), else it stays as it is. It is asked for only where an entry has a job that draws which
+    /// wasn't taken yet (`asked`): so a life stores none before that, as `known` tells, and none between what was taken and the next entry (`origin`).
     ///
     /// It is refused for want of memory only where 2^32 - 1 bearers have stopped.
     pub fn refill(&mut self, n: &Numbers, drawer: &mut Drawer, dry: Dry) -> Result<Raised, Stop>
@@ -184,7 +190,7 @@ impl<M: Machine, F: Flash + Send + Drop> Node<M, F> {
         requires drawer_made { drawer.old.which ≡ n.now.which }
         requires found { IsFoundBy dry drawer.old }
         requires seq { seq_of dry.mark < 2 ^ 24 }
-        requires asked { WasAsked (node_marks self.old) }
+        requires asked { WasAsked self.old.machine.taken (node_marks self.old) }
         ensures filled { dry.mark ≡ self.old.machine.mark
             → OnOk result
             (self.new.machine

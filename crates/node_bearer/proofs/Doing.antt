@@ -1,5 +1,5 @@
 -- What a bearer did, with one step more.
-use Rattle.std.proofs.Common.{◌≡◌, ◌∙◌, ℕ, suc, ◌+◌, ◌^◌, ◌<◌, false, true≢false, true, List, [], ◌∷◌, ◌++◌, length, map, Option, Some, None, inl, inr, refl, sym, ap, arith, subst, length-append, append-nil, append_assoc}
+use Rattle.std.proofs.Common.{◌≡◌, ◌∙◌, ℕ, suc, ◌+◌, ◌^◌, ◌<◌, false, true≢false, true, List, [], ◌∷◌, ◌++◌, length, map, Option, Some, None, ◌⊎◌, inl, inr, refl, sym, ap, arith, subst, length-append, append-nil, append_assoc}
 use Rattle.std.specs.Prelude.{◌*◌, ◌≤◌, All, AllPairs, IfSome, slice_get, slice_index_or}
 use Rattle.std.specs.List.{Contains, range_with_len}
 use Rattle.std.specs.Option.{option_map, option_to_list}
@@ -16,11 +16,11 @@ use Rattle.mesh_types.specs.declared.lines.Outcome.{Outcome}
 use Rattle.mesh_types.specs.declared.lines.Outcome.TheVariants as O
 use Rattle.report_definitions.specs.Record.{Shown}
 use Rattle.run_definitions.specs.Lines.{Shows, after_line, drawn_of, is_drawing, shows_spent}
-use Rattle.run_definitions.specs.Order.{Placed, Task, follow, Walks, job_tasks, stops, write, write_tasks, writes}
+use Rattle.run_definitions.specs.Order.{Placed, Task, follow, Walks, is_outside, job_tasks, stops, write, write_tasks, writes}
 use Rattle.run_definitions.specs.RunOf.{draws, word_told, words_told}
 use Rattle.seq_word.specs.Dry.{DryView}
 use Rattle.seq_word.specs.Rule.{IsPast, times}
-use Rattle.seq_word.specs.Seen.{AfterLost, DrawerView, HasCause, LostTries, SameDrawn}
+use Rattle.seq_word.specs.Seen.{AfterLost, DrawerView, HasCause, IsBelow, LostTries, SameDrawn, last_word}
 use Rattle.seq_word.specs.Seen as seen
 use Rattle.seq_word.specs.declared.looks.Look.{Look}
 use Rattle.seq_word.specs.declared.looks.Look.TheVariants as saw
@@ -28,9 +28,10 @@ use Rattle.seq_word.specs.declared.miss.Miss.TheVariants as missed
 use Rattle.turn_lock.specs.Entries.{IsPrefix, added}
 use Rattle.locked_node.specs.declared.marks.Mark.{Mark}
 use Rattle.locked_node.specs.declared.marks.Mark.TheVariants as M
-use Rattle.node_bearer.specs.Did.{AreMarksAt, Did, DrewPair, IsFor, SawDry, SawEnd}
+use Rattle.node_bearer.specs.Did.{AreMarksAt, Did, DrewPair, IsFor, IsMovedOver, SawDry, SawEnd}
 use Rattle.node_bearer.specs.Marked.{AreShown, HasJob, IsBehind, IsFrom, IsSpentSeen, end_told, ends_told, move_of, shown_in, word_seen, words_seen}
 use Rattle.node_bearer.proofs.Lists.{added_one, found_longer, from_more, marks_at_more, no_lower, pairs_more, range_more, times_append}
+use Rattle.node_bearer.proofs.Moving.{last_more, moved_here, moved_line, moved_more, moved_still, over_acted, over_follows}
 use Rattle.node_bearer.proofs.Walking.{acts, walk_more}
 
 -- more is seen of the marks
@@ -225,9 +226,13 @@ module _ (k first : ℕ) (tasks : List Task) where
   -- an event was handled
   pub did_acted : (task : Task) (rest : List Task) (own : List (ℕ × Mark)) (marks ms : List Mark) (lines : List Sent) (number : ℕ) (d : DrawerView) (event : Event) (e : Entry) (move : ℕ)
       → IsFor event task → Did k first tasks (task ∷ rest) own marks lines number d → IsPrefix marks ms → e.event ≡ event → e.bearer ≡ k → e.number ≡ number + 1
+      → (move ≡ last_word (map move_of ms)) ⊎ IsBelow d move
       → Did k first tasks (write_tasks (length ms) 0 event e.jobs ++ rest) (own ++ added ms (ms ++ M.Handled e move ∷ [])) (ms ++ M.Handled e move ∷ []) lines (number + 1) d
-  did_acted task rest own marks ms lines number d event e move is h front same by numbered =
+  did_acted task rest own marks ms lines number d event e move is h front same by numbered until =
       let p : Placed = record { at = length ms; entry = e } in
+      let new = M.Handled e move ∷ [] in
+      let grown : ms ++ new ≡ marks ++ (front.rest ++ new) = ap (λ l. l ++ new) front.is ∙ append_assoc marks front.rest new in
+      let before : All (λ q. q.at < length ms) h.entries = λ i q lt. let below : (slice_index_or h.entries i q).at < length marks = h.last i q lt in omega (arith, below, ap length front.is, length-append marks front.rest) in
       let n = length h.entries in
       let long : length (h.entries ++ p ∷ []) ≡ suc n = omega (arith, length-append h.entries (p ∷ [])) in
       let numbered' : e.number ≡ first + 1 + n = omega (arith, numbered, h.count) in
@@ -242,9 +247,14 @@ module _ (k first : ℕ) (tasks : List Task) where
         bearer = All-push (λ q. q.entry.bearer ≡ k) h.entries p h.bearer by;
         numbers = mine ∙ ap (range_with_len (first + 1)) (sym long);
         count = omega (arith, h.count, long);
-        shown = shown_prefix marks (ms ++ M.Handled e move ∷ []) lines d (record { rest = front.rest ++ M.Handled e move ∷ []; is = ap (λ l. l ++ M.Handled e move ∷ []) front.is ∙ append_assoc marks front.rest (M.Handled e move ∷ []) }) h.shown;
+        shown = shown_prefix marks (ms ++ new) lines d (record { rest = front.rest ++ new; is = grown }) h.shown;
         rise = h.rise;
         above = h.above;
+        until = All-push (IsMovedOver (ms ++ new) lines d) h.entries p
+            (subst (λ l. All (IsMovedOver l lines d) h.entries) (sym grown) (moved_more marks (front.rest ++ new) lines d h.entries h.shown h.last h.until))
+            (moved_here ms lines d e move (shown_prefix marks ms lines d front h.shown) until);
+        over = over_acted h.entries p event task rest is same before h.over;
+        last = All-push (λ q. q.at < length (ms ++ new)) h.entries p (last_more ms new h.entries before) (omega (arith, length-append ms new));
       }
 
   -- more was seen
@@ -260,6 +270,9 @@ module _ (k first : ℕ) (tasks : List Task) where
     shown = shown_prefix marks ms lines d front h.shown;
     rise = h.rise;
     above = h.above;
+    until = subst (λ l. All (IsMovedOver l lines d) h.entries) (sym front.is) (moved_more marks front.rest lines d h.entries h.shown h.last h.until);
+    over = h.over;
+    last = subst (λ l. All (λ p. p.at < length l) h.entries) (sym front.is) (last_more marks front.rest h.entries h.last);
   }
 
   -- a look at the words gave no number
@@ -276,14 +289,17 @@ module _ (k first : ℕ) (tasks : List Task) where
     shown = shown_still marks lines d e drawn noted known looks h.shown;
     rise = subst (AllPairs (λ x y. x < y)) (sym drawn) h.rise;
     above = subst (λ ws. All (λ x. All (λ y. y < x) e.noted) ws) (sym drawn) (subst (λ ns. All (λ x. All (λ y. y < x) ns) d.drawn) (sym noted) h.above);
+    until = moved_still marks lines d e h.entries noted h.until;
+    over = h.over;
+    last = h.last;
   }
 
   -- a line that draws no pair
   pub did_written : (rest : List Task) (own : List (ℕ × Mark)) (marks : List Mark) (lines : List Sent) (number : ℕ) (d : DrawerView) (at j : ℕ) (event : Event) (job : Job) (o : Outcome) (after : List Event)
-      → HasJob marks at j event job d.informed → Shows event job o → drawn_of job o ≡ None → IsSpentSeen d.looks o → end_told o ≡ None → after_line job o ≡ after
+      → HasJob marks at j event job d.informed → Shows event job o → drawn_of job o ≡ None → IsSpentSeen d.looks o → end_told o ≡ None → after_line job o ≡ after → All (λ ev. is_outside ev ≡ false) after
       → Did k first tasks (write at j event job ∷ rest) own marks lines number d
       → Did k first tasks (map follow after ++ rest) own marks (lines ++ record { entry = at; job = j; outcome = o } ∷ []) number d
-  did_written rest own marks lines number d at j event job o after there shows drawn spent none next h = record {
+  did_written rest own marks lines number d at j event job o after there shows drawn spent none next inside h = record {
     entries = h.entries;
     own_are = h.own_are;
     walks = subst (λ es. Walks tasks es (lines ++ record { entry = at; job = j; outcome = o } ∷ []) (map follow after ++ rest)) (append-nil h.entries)
@@ -295,14 +311,17 @@ module _ (k first : ℕ) (tasks : List Task) where
         (word_of_line job o None drawn none) tt;
     rise = h.rise;
     above = h.above;
+    until = moved_line marks lines d d h.entries (record { entry = at; job = j; outcome = o }) refl h.over.0 h.until;
+    over = over_follows h.entries after rest inside h.over.1;
+    last = h.last;
   }
 
   -- a line with the pair that was drawn for it
   pub did_drawn : (rest : List Task) (own : List (ℕ × Mark)) (marks : List Mark) (lines : List Sent) (number : ℕ) (d e : DrawerView) (p : Pair) (at j : ℕ) (event : Event) (job : Job) (o : Outcome) (after : List Event)
-      → HasJob marks at j event job e.informed → Shows event job o → drawn_of job o ≡ Some p → IsSpentSeen d.looks o → end_told o ≡ None → after_line job o ≡ after → DrewPair p d e
+      → HasJob marks at j event job e.informed → Shows event job o → drawn_of job o ≡ Some p → IsSpentSeen d.looks o → end_told o ≡ None → after_line job o ≡ after → All (λ ev. is_outside ev ≡ false) after → DrewPair p d e
       → Did k first tasks (write at j event job ∷ rest) own marks lines number d
       → Did k first tasks (map follow after ++ rest) own marks (lines ++ record { entry = at; job = j; outcome = o } ∷ []) number e
-  did_drawn rest own marks lines number d e p at j event job o after there shows drawn spent none next new h =
+  did_drawn rest own marks lines number d e p at j event job o after there shows drawn spent none next inside new h =
       let line : List Sent = record { entry = at; job = j; outcome = o } ∷ [] in
       record {
         entries = h.entries;
@@ -318,6 +337,9 @@ module _ (k first : ℕ) (tasks : List Task) where
         rise = subst (AllPairs (λ x y. x < y)) (sym new.drawn) (pairs_more d.drawn (word_of p) h.rise new.above.drawn);
         above = subst (λ ws. All (λ x. All (λ y. y < x) e.noted) ws) (sym new.drawn) (subst (λ ns. All (λ x. All (λ y. y < x) ns) (d.drawn ++ word_of p ∷ [])) (sym new.noted)
             (All-push (λ x. All (λ y. y < x) d.noted) d.drawn (word_of p) h.above new.above.noted));
+        until = moved_line marks lines d e h.entries (record { entry = at; job = j; outcome = o }) new.noted h.over.0 h.until;
+        over = over_follows h.entries after rest inside h.over.1;
+        last = h.last;
       }
 
   -- a line that says that no number was left, with the look that found that
@@ -339,6 +361,9 @@ module _ (k first : ℕ) (tasks : List Task) where
             (All-nil (λ q. q.seq < 2 ^ 24)) new.here new.once_more refl new.above;
         rise = subst (AllPairs (λ x y. x < y)) (sym new.drawn) h.rise;
         above = subst (λ ws. All (λ x. All (λ y. y < x) e.noted) ws) (sym new.drawn) (subst (λ ns. All (λ x. All (λ y. y < x) ns) d.drawn) (sym new.noted) h.above);
+        until = moved_line marks lines d e h.entries (record { entry = at; job = j; outcome = O.Spent iv }) new.noted h.over.0 h.until;
+        over = h.over.1;
+        last = h.last;
       }
 
 -- tries that were lost have looked

@@ -1,4 +1,5 @@
 pub mod Walking
 pub mod Lists
+pub mod Moving
 pub mod Doing
 pub mod Turning

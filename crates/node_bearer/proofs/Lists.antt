@@ -99,7 +99,7 @@ no_lower (y ∷ xs) x rise below i j d lt within =
     AllPairs-cons (λ a b. a ≤ b) y (xs ++ x ∷ []) (All-push (λ b. y ≤ b) xs x (λ k d lt. rise 0 (suc k) d (omega arith) (omega (arith, lt))) (All-head (λ a. a ≤ x) y xs below))
     (no_lower xs x (λ i j d lt within. rise (suc i) (suc j) d (omega (arith, lt)) (omega (arith, within))) (All-tail (λ a. a ≤ x) y xs below)) i j d lt within
 
-shown_longer : (marks rest : List Mark) (s : Sent) (y : Shown) (o : Option Mark) → slice_get marks s.entry ≡ o → option_and_then (λ m. shown_at m s) o ≡ Some y
+pub shown_longer : (marks rest : List Mark) (s : Sent) (y : Shown) (o : Option Mark) → slice_get marks s.entry ≡ o → option_and_then (λ m. shown_at m s) o ≡ Some y
     → shown_in (marks ++ rest) s ≡ Some y
 shown_longer marks rest s y None e h = cc
 shown_longer marks rest s y (Some m) e h = rw (get_longer marks rest s.entry m e) h

@@ -1,6 +1,7 @@
 -- A turn at the lock: what is added is the bearer's own, and it has seen all that stands there.
-use Rattle.std.proofs.Common.{◌≡◌, ◌∙◌, ℕ, ◌+◌, true, false, List, [], ◌∷◌, ◌++◌, length, Option, Some, None, refl, sym, ap, subst, append_assoc, append-nil}
-use Rattle.std.specs.Prelude.{Result, Ok, Err, IfErr, IfOk, IsErrAnd, OnOk, slice_get}
+use Rattle.std.proofs.Common.{◌≡◌, ◌⊎◌, ◌∙◌, ℕ, ◌+◌, true, false, List, [], ◌∷◌, ◌++◌, length, map, Option, Some, None, refl, sym, ap, subst, append_assoc, append-nil}
+use Rattle.std.specs.Prelude.{◌≤◌, Result, Ok, Err, IfErr, IfOk, IsErrAnd, OnOk, slice_get}
+use Rattle.flash_model.specs.Chip.{Chip}
 use Rattle.machine_contract.specs.declared.answers.Stop.{Stop}
 use Rattle.machine_contract.specs.declared.answers.Stop.TheVariants as S
 use Rattle.mesh_types.specs.declared.events.Event.{Event}
@@ -8,16 +9,16 @@ use Rattle.mesh_types.specs.declared.history.Entry.{Entry}
 use Rattle.mesh_types.specs.declared.jobs.Job.{Job}
 use Rattle.run_definitions.specs.Lines.{is_drawing}
 use Rattle.run_definitions.specs.Order.{IsStuck, Task, follow, handle, write, write_tasks}
-use Rattle.seq_word.specs.Seen.{DrawerView}
+use Rattle.seq_word.specs.Seen.{DrawerView, IsBelow, last_word}
 use Rattle.turn_lock.specs.Entries.{IsPrefix, added}
 use Rattle.turn_lock.specs.Views.{PassView}
 use Rattle.locked_node.specs.declared.marks.Mark.{Mark}
 use Rattle.locked_node.specs.declared.marks.Mark.TheVariants as M
 use Rattle.locked_node.specs.Asked.{WasAsked}
 use Rattle.locked_node.proofs.Told.{told_more}
-use Rattle.locked_node.specs.Node.{HasBeenTold, IsStopped, IsStoppedBare, NodeView, OnStop, node_marks}
+use Rattle.locked_node.specs.Node.{HasBeenTold, IsStopped, IsStoppedBare, NodeView, OnStop, node_marks, origin_of}
 use Rattle.node_bearer.specs.Did.{BearerOf, Broke, Did, DidBy, GoesOn, IsDryFor, IsFor, IsNext, LeftOff, freed}
-use Rattle.node_bearer.specs.Marked.{HasEntry, HasJob}
+use Rattle.node_bearer.specs.Marked.{HasEntry, HasJob, move_of}
 use Rattle.node_bearer.specs.Turns.{after_turn}
 use Rattle.node_bearer.proofs.Lists.{added_more, added_none, added_one, get_last, get_longer}
 use Rattle.node_bearer.proofs.Doing.{did_acted, did_looked, did_seen}
@@ -104,18 +105,20 @@ pub job_on : {F : Type 0} (a b : BearerOf F) (at j : ℕ) (event : Event) (job :
 job_on a b at j event job on h = record { jobs = h.jobs; entry = entry_on a b at event h.jobs on h.entry; place = h.place; short = h.short }
 
 -- a job that draws, of an entry that a bearer has seen, is among what it sees later
-asked_longer : (marks rest : List Mark) → WasAsked marks → WasAsked (marks ++ rest)
-asked_longer marks rest w = record { at = w.at; entry = w.entry; move = w.move; here = get_longer marks rest w.at (M.Handled w.entry w.move) w.here; place = w.place; job = w.job; has = w.has; draws = w.draws }
+asked_longer : (before : ℕ) (marks rest : List Mark) → WasAsked before marks → WasAsked before (marks ++ rest)
+asked_longer before marks rest w = record { at = w.at; since = w.since; entry = w.entry; move = w.move; here = get_longer marks rest w.at (M.Handled w.entry w.move) w.here; place = w.place; job = w.job; has = w.has; draws = w.draws }
 
-pub asked_front : (front marks : List Mark) → IsPrefix front marks → WasAsked front → WasAsked marks
-asked_front front marks p w = subst WasAsked (sym p.is) (asked_longer front p.rest w)
+pub asked_front : (before : ℕ) (front marks : List Mark) → IsPrefix front marks → WasAsked before front → WasAsked before marks
+asked_front before front marks p w = subst (WasAsked before) (sym p.is) (asked_longer before front p.rest w)
 
-pub asked_on : {F : Type 0} (a b : BearerOf F) → GoesOn a b → WasAsked a.pass.seen → WasAsked b.pass.seen
-asked_on a b on w = subst WasAsked (sym on.more) (asked_longer a.pass.seen on.rest w)
+pub asked_on : {F : Type 0} (before : ℕ) (a b : BearerOf F) → GoesOn a b → WasAsked before a.pass.seen → WasAsked before b.pass.seen
+asked_on before a b on w = subst (WasAsked before) (sym on.more) (asked_longer before a.pass.seen on.rest w)
 
-pub asked_by : (marks : List Mark) (at j : ℕ) (event : Event) (job : Job) (informed : List ℕ) → HasJob marks at j event job informed → is_drawing job ≡ true → WasAsked marks
-asked_by marks at j event job informed h draws = record {
+pub asked_by : (before : ℕ) (marks : List Mark) (at j : ℕ) (event : Event) (job : Job) (informed : List ℕ) → before ≤ at → HasJob marks at j event job informed → is_drawing job ≡ true
+    → WasAsked before marks
+asked_by before marks at j event job informed since h draws = record {
   at = at;
+  since = since;
   entry = h.entry.entry;
   move = h.entry.move;
   here = h.entry.here;
@@ -124,6 +127,10 @@ asked_by marks at j event job informed h draws = record {
   has = subst (λ jobs. slice_get jobs j ≡ Some job) (sym h.entry.jobs_are) h.place;
   draws = draws;
 }
+
+-- no entry before that place was taken, as it is in the lock
+pub taken_same : {F : Type 0} (chip : F → Chip) (m n : NodeView F) → origin_of chip m ≡ origin_of chip n → m.machine.taken ≡ n.machine.taken
+taken_same chip m n same = ap (λ o. o.taken) same
 
 -- a pass that went in has seen all that stands there
 pub front_by : {T : Type 0} (q p : PassView T Mark) (ms : List Mark) → p ≡ record q { inside = true; seen = ms } → IsPrefix p.seen ms
@@ -191,15 +198,16 @@ module _ {F : Type 0} (k first : ℕ) (tasks : List Task) where
     -- an event more was handled
     pub did_handled : (task : Task) (rest : List Task) (event : Event) (e : Entry) (move at : ℕ) → IsFor event task → DidBy k first tasks (task ∷ rest) (after_turn b old)
         → node_marks new ≡ node_marks old ++ M.Handled e move ∷ [] → at ≡ length (node_marks old) → e.event ≡ event → e.bearer ≡ k → e.number ≡ b.number + 1
+        → (move ≡ last_word (map move_of (node_marks old))) ⊎ IsBelow b.drawer move
         → DidBy k first tasks (write_tasks at 0 event e.jobs ++ rest) (after_turn (record b { number = b.number + 1 }) new)
-    did_handled task rest event e move at is h grew place same by numbered =
+    did_handled task rest event e move at is h grew place same by numbered until =
         let ms = node_marks old in
         let mine = b.pass.own ++ added b.pass.seen ms in
         let whole = ms ++ M.Handled e move ∷ [] in
         let more : b.pass.own ++ added b.pass.seen whole ≡ mine ++ added ms whole =
         ap (λ l. b.pass.own ++ l) (added_more b.pass.seen ms (M.Handled e move) seen) ∙ sym (append_assoc b.pass.own (added b.pass.seen ms) ((length ms, M.Handled e move) ∷ []))
         ∙ ap (λ l. mine ++ l) (sym (added_one ms (M.Handled e move))) in
-        let done = did_acted k first tasks task rest mine ms ms b.lines.items b.number b.drawer event e move is h (front_of_itself ms) same by numbered in
+        let done = did_acted k first tasks task rest mine ms ms b.lines.items b.number b.drawer event e move is h (front_of_itself ms) same by numbered until in
         subst (λ l. Did k first tasks (write_tasks at 0 event e.jobs ++ rest) (b.pass.own ++ added b.pass.seen l) l b.lines.items (b.number + 1) b.drawer) (sym grew)
         (subst (λ o. Did k first tasks (write_tasks at 0 event e.jobs ++ rest) o whole b.lines.items (b.number + 1) b.drawer) (sym more)
         (subst (λ n. Did k first tasks (write_tasks n 0 event e.jobs ++ rest) (mine ++ added ms whole) whole b.lines.items (b.number + 1) b.drawer) (sym place) done))

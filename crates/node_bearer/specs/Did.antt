@@ -1,5 +1,5 @@
 -- What a bearer did with its tasks.
-use Rattle.std.specs.Prelude.{◌≡◌, ℕ, ◌+◌, ◌*◌, ◌^◌, ◌<◌, ◌≤◌, false, IsTrue, List, [], ◌∷◌, ◌++◌, map, length, All, AllPairs, Option, Some, ⊤}
+use Rattle.std.specs.Prelude.{◌≡◌, ℕ, ◌+◌, ◌*◌, ◌^◌, ◌<◌, ◌≤◌, true, false, IsTrue, List, [], ◌∷◌, ◌++◌, map, length, All, AllPairs, Option, Some, ⊤}
 use Rattle.std.specs.List.{Contains, range_with_len}
 use Rattle.mesh_base.specs.Pairs.{word_of}
 use Rattle.mesh_base.specs.declared.pair.Pair.{Pair}
@@ -18,7 +18,7 @@ use Rattle.locked_node.specs.declared.marks.Mark.{Mark}
 use Rattle.locked_node.specs.declared.marks.Mark.TheVariants as M
 use Rattle.locked_node.specs.declared.marks.Origin.{Origin}
 use Rattle.locked_node.specs.Node.{NodeView}
-use Rattle.node_bearer.specs.Marked.{AreShown, words_seen}
+use Rattle.node_bearer.specs.Marked.{AreShown, IsRiseAt, IsUntil, move_of, words_seen}
 use Rattle.node_bearer.specs.declared.bearer.Bearer.{Bearer}
 use Rattle.node_bearer.specs.declared.bearer.Drawn.{Drawn}
 use Rattle.node_bearer.specs.declared.bearer.Drawn.TheVariants as D
@@ -28,6 +28,32 @@ abbrev pub AreMarksAt : List (ℕ × Mark) → List Placed → Type 0
 AreMarksAt [] [] = ⊤
 AreMarksAt (x ∷ own) (p ∷ entries) = (move : ℕ) × (x ≡ (p.at, M.Handled p.entry move)) × AreMarksAt own entries
 AreMarksAt _ _ = ⊥
+
+-- all of these tasks are to have an event from outside handled
+abbrev pub AreHandles : List Task → Type 0
+AreHandles [] = ⊤
+AreHandles (handle event ∷ tasks) = AreHandles tasks
+AreHandles (task ∷ tasks) = ⊥
+
+-- a line that is to be written is of the last of these entries from outside, or of one behind it; what is to be handled behind a line isn't from
+-- outside
+abbrev pub IsOfLast : List Placed → Task → Type 0
+IsOfLast entries (write at j event job) = All (λ p. is_outside p.entry.event ≡ true → p.at ≤ at) entries
+IsOfLast entries (follow event) = is_outside event ≡ false
+IsOfLast entries (handle event) = ⊤
+
+-- so is each, and none is left behind an event from outside that is to be handled
+abbrev pub AreOfLast : List Placed → List Task → Type 0
+AreOfLast entries [] = ⊤
+AreOfLast entries (handle event ∷ tasks) = AreHandles tasks
+AreOfLast entries (task ∷ tasks) = IsOfLast entries task × AreOfLast entries tasks
+
+-- Where the counter was moved with this entry of an event from outside, the lines of entries before it draw words below where it was moved to;
+-- and so are the words that had been drawn where the seat was split off.
+pub record IsMovedOver (marks : List Mark) (lines : List Sent) (d : DrawerView) (p : Placed) : Type 0 where
+  pub lines_are : (word : ℕ) → is_outside p.entry.event ≡ true → IsRiseAt (map move_of marks) p.at word
+      → All (IsUntil marks p.at word) lines
+  pub noted : (word : ℕ) → is_outside p.entry.event ≡ true → IsRiseAt (map move_of marks) p.at word → All (λ x. x < word) d.noted
 
 -- With these tasks bearer k, whose last number before was `first`, made these entries of its own and these lines, and drew the words that
 -- the lines show; these tasks are left.
@@ -42,6 +68,9 @@ pub record Did (k first : ℕ) (tasks left : List Task) (own : List (ℕ × Mark
   pub shown : AreShown marks lines d
   pub rise : AllPairs (λ x y. x < y) d.drawn
   pub above : All (λ x. All (λ y. y < x) d.noted) d.drawn
+  pub until : All (IsMovedOver marks lines d) entries
+  pub over : AreOfLast entries left
+  pub last : All (λ p. p.at < length marks) entries
 
 -- a task that is to have this event handled
 abbrev pub IsFor : Event → Task → Type 0

@@ -1,8 +1,9 @@
 -- Lines and the entries that they are of, where entries stand among the marks of a node's lock.
-use Rattle.std.specs.Prelude.{◌≡◌, ℕ, ◌+◌, ◌*◌, ◌^◌, ◌<◌, ◌≤◌, List, map, All, AllPairs, Option, Some, None, option_and_then, ⊤}
+use Rattle.std.specs.Prelude.{◌≡◌, ◌≢◌, ℕ, ◌+◌, ◌*◌, ◌^◌, ◌<◌, ◌≤◌, List, map, All, AllPairs, Option, Some, None, option_and_then, take, ⊤}
 use Rattle.std.specs.List.{Contains, filter_map, slice_get}
 use Rattle.std.specs.Option.{option_map}
 use Rattle.mesh_base.specs.Pairs.{word_of}
+use Rattle.mesh_base.specs.declared.pair.Pair.{Pair}
 use Rattle.mesh_types.specs.declared.events.Event.{Event}
 use Rattle.mesh_types.specs.declared.history.Entry.{Entry}
 use Rattle.mesh_types.specs.declared.history.Sent.{Sent}
@@ -10,9 +11,10 @@ use Rattle.mesh_types.specs.declared.jobs.Job.{Job}
 use Rattle.mesh_types.specs.declared.lines.Outcome.{Outcome}
 use Rattle.mesh_types.specs.declared.lines.Outcome.TheVariants as O
 use Rattle.report_definitions.specs.Record.{Shown}
+use Rattle.run_definitions.specs.Lines.{drawn_of}
 use Rattle.run_definitions.specs.RunOf.{draws, word_told, words_told}
 use Rattle.seq_word.specs.Rule.{IsPast, times}
-use Rattle.seq_word.specs.Seen.{DrawerView}
+use Rattle.seq_word.specs.Seen.{DrawerView, last_word}
 use Rattle.seq_word.specs.declared.looks.Look.{Look}
 use Rattle.seq_word.specs.declared.looks.Look.TheVariants as saw
 use Rattle.locked_node.specs.Node.{HasBeenTold}
@@ -67,6 +69,16 @@ move_of (M.Stopped hand) = 0
 abbrev pub IsFrom : List Mark → Sent → Type 0
 IsFrom marks s = (line : Shown) (mark : Mark) (word : ℕ) → shown_in marks s ≡ Some line → slice_get marks s.entry ≡ Some mark
     → word_told line.job line.outcome ≡ Some word → move_of mark ≤ word
+
+-- behind the entry at this place the counter had been moved to this word last, and behind those before it to another, or nowhere
+pub record IsRiseAt (moves : List ℕ) (at word : ℕ) : Type 0 where
+  pub here : slice_get moves at ≡ Some word
+  pub rises : last_word (take at moves) ≢ word
+
+-- a line of an entry before this place draws a word below this one, if it draws any
+abbrev pub IsUntil : List Mark → ℕ → ℕ → Sent → Type 0
+IsUntil marks at word s = (line : Shown) (p : Pair) → s.entry < at → shown_in marks s ≡ Some line
+    → drawn_of line.job line.outcome ≡ Some p → word_of p < word
 
 -- The entry and the job of each line are there; the lines draw the words of this seat, each with a SEQ below 2^24. A job's number, from 1 on,
 -- has 8 bits. No line tells a word below that of an earlier one, or below what was known where the seat was split off, or below where the counter

@@ -91,6 +91,7 @@ fn handle_one<M: Machine, F: Flash + Send + Drop, S: Sharing>(
         → IfOk result
         (λ a. DidBy place.now.bearer first tasks (write_tasks a.at 0 event.now a.jobs ++ rest) (after_turn b.new node.new)) }
     ensures entry { IfOk result (λ a. HasEntry (node_marks node.new) a.at event.now a.jobs b.new.drawer.informed) }
+    ensures since { IfOk result (λ a. node.old.machine.taken ≤ a.at) }
     ensures jobs { IfOk result (λ a. All (IsJob event.now) a.jobs) }
     ensures quiet { is_outside event.now ≡ false → IfOk result (λ a. All IsQuiet a.jobs) }
     ensures stopped { (first : ℕ) (tasks rest : List Task) (task : Task) → IsFor event.now task
@@ -100,6 +101,7 @@ fn handle_one<M: Machine, F: Flash + Send + Drop, S: Sharing>(
     if b.number == u32::MAX {
         return Err(Stop::Memory);
     }
+    node.known();
     let answered = node.handle(
         place.numbers,
         &mut b.drawer,
@@ -153,6 +155,7 @@ fn handle_all<M: Machine, F: Flash + Send + Drop, S: Sharing>(
     ensures entry { (e : AnEvent) → IfOk result
         (λ a. HasEntry (node_marks node.new) a.answered.at (slice_index_or events.now a.last e) a.answered.jobs
         b.new.drawer.informed) }
+    ensures since { IfOk result (λ a. node.old.machine.taken ≤ a.answered.at) }
     ensures jobs { (e : AnEvent) → IfOk result
         (λ a. All (IsJob (slice_index_or events.now a.last e)) a.answered.jobs) }
     ensures stopped { (first : ℕ) (tasks rest : List Task)
@@ -193,6 +196,7 @@ pub fn act<M: Machine, F: Flash + Send + Drop, S: Sharing>(
         → IfOk result
         (λ a. DidBy place.now.bearer first tasks (write_tasks a.at 0 event.now a.jobs ++ rest) b.new) }
     ensures entry { IfOk result (λ a. HasEntry b.new.pass.seen a.at event.now a.jobs b.new.drawer.informed) }
+    ensures since { IfOk result (λ a. place.now.turn.now.first.machine.taken ≤ a.at) }
     ensures jobs { IfOk result (λ a. All (IsJob event.now) a.jobs) }
     ensures quiet { is_outside event.now ≡ false → IfOk result (λ a. All IsQuiet a.jobs) }
     ensures stopped { (first : ℕ) (tasks rest : List Task) (task : Task) → IsFor event.now task
@@ -236,6 +240,7 @@ pub fn act_on<M: Machine, F: Flash + Send + Drop, S: Sharing>(
     ensures entry { (e : AnEvent) → IfOk result
         (λ a. HasEntry b.new.pass.seen a.answered.at (slice_index_or events.now a.last e) a.answered.jobs
         b.new.drawer.informed) }
+    ensures since { IfOk result (λ a. place.now.turn.now.first.machine.taken ≤ a.answered.at) }
     ensures jobs { (e : AnEvent) → IfOk result
         (λ a. All (IsJob (slice_index_or events.now a.last e)) a.answered.jobs) }
     ensures stopped { (first : ℕ) (tasks rest : List Task)
@@ -251,8 +256,8 @@ pub fn act_on<M: Machine, F: Flash + Send + Drop, S: Sharing>(
 }
 
 /// Has a refill stored, where the mark that was reached is still the one that was published last, and can be raised. Then another mark is
-/// published, and no longer the one that was reached (`raised`). It is asked for by a bearer that has seen a job that draws (`asked`), with what its
-/// last draw found (`found`); and it may owe the next draw then, where nothing failed (`frame`, `failed`).
+/// published, and no longer the one that was reached (`raised`). It is asked for by a bearer that has seen a job that draws, of an entry that
+/// wasn't taken before (`asked`), with what its last draw found (`found`); and it may owe the next draw then, where nothing failed (`frame`, `failed`).
 pub fn refill<M: Machine, F: Flash + Send + Drop, S: Sharing>(
     place: &Workplace<'_, Node<M, F>, S>,
     b: &mut Bearer<Node<M, F>>,
@@ -261,7 +266,7 @@ pub fn refill<M: Machine, F: Flash + Send + Drop, S: Sharing>(
     requires rider { IsRider S.parts place.now.numbers.now place.now.turn.now b.old }
     requires found { IsFoundBy dry b.old.drawer }
     requires seq { seq_of dry.mark < 2 ^ 24 }
-    requires asked { WasAsked b.old.pass.seen }
+    requires asked { WasAsked place.now.turn.now.first.machine.taken b.old.pass.seen }
     ensures rider { IsRider S.parts place.now.numbers.now place.now.turn.now b.new }
     ensures on { GoesOn b.old (freed b.new) }
     ensures frame { (b.new.lines ≡ b.old.lines)

@@ -39,7 +39,7 @@ fn raise<M: Machine, F: Flash + Send + Drop, S: Sharing>(
 ) -> Result<Option<Raised>, Stop>
     requires rider { IsRider S.parts place.now.numbers.now place.now.turn.now b.old }
     requires found { IsFoundBy dry b.old.drawer }
-    requires asked { WasAsked b.old.pass.seen }
+    requires asked { WasAsked place.now.turn.now.first.machine.taken b.old.pass.seen }
     ensures rider { IsRider S.parts place.now.numbers.now place.now.turn.now b.new }
     ensures on { GoesOn b.old (freed b.new) }
     ensures frame { (b.new.lines ≡ b.old.lines)
@@ -90,13 +90,13 @@ fn draw_below(n: &Numbers, d: &mut Drawer) -> Result<Pair, Option<DrawStop>>
 /// Draws a pair. Where the counter has reached the mark, it has a refill stored and draws again, and for no other cause. It waits for
 /// nobody but for its turn to have a refill stored; after 2^32 - 1 tries it gives up, as for want of memory.
 ///
-/// It draws only once an entry that the bearer has seen at the lock has a job that draws (`asked`).
+/// It draws only once an entry that the bearer has seen at the lock, and that wasn't taken before, has a job that draws (`asked`).
 pub fn draw<M: Machine, F: Flash + Send + Drop, S: Sharing>(
     place: &Workplace<'_, Node<M, F>, S>,
     b: &mut Bearer<Node<M, F>>,
 ) -> Result<Drawn, Stop>
     requires rider { IsRider S.parts place.now.numbers.now place.now.turn.now b.old }
-    requires asked { WasAsked b.old.pass.seen }
+    requires asked { WasAsked place.now.turn.now.first.machine.taken b.old.pass.seen }
     ensures rider { IsRider S.parts place.now.numbers.now place.now.turn.now b.new }
     ensures on { GoesOn b.old b.new }
     ensures frame { b.new.lines ≡ b.old.lines }

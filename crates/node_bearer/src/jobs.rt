@@ -127,6 +127,7 @@ fn do_job<M: Machine, F: Flash + Send + Drop, S: Sharing>(
     requires rider { IsRider S.parts place.now.numbers.now place.now.turn.now b.old }
     requires job { IsJob event.now job.now }
     requires there { HasJob b.old.pass.seen at j event.now job.now b.old.drawer.informed }
+    requires since { place.now.turn.now.first.machine.taken ≤ at }
     ensures rider { IsRider S.parts place.now.numbers.now place.now.turn.now b.new }
     ensures on { GoesOn b.old b.new }
     ensures did { (k first : ℕ) (tasks rest : List Task)
@@ -158,6 +159,7 @@ fn do_quiet_jobs<M: Machine, F: Flash + Send + Drop, S: Sharing>(
 ) -> Result<(), Stop>
     requires rider { IsRider S.parts place.now.numbers.now place.now.turn.now b.old }
     requires entry { HasEntry b.old.pass.seen at event.now jobs.now b.old.drawer.informed }
+    requires since { place.now.turn.now.first.machine.taken ≤ at }
     requires few { length jobs.now ≤ 160 }
     requires jobs { All (IsJob event.now) jobs.now }
     requires quiet { All IsQuiet jobs.now }
@@ -239,6 +241,7 @@ pub fn do_jobs<M: Machine, F: Flash + Send + Drop, S: Sharing>(
 ) -> Result<(), Stop>
     requires rider { IsRider S.parts place.now.numbers.now place.now.turn.now b.old }
     requires entry { HasEntry b.old.pass.seen at event.now jobs.now b.old.drawer.informed }
+    requires since { place.now.turn.now.first.machine.taken ≤ at }
     requires few { length jobs.now ≤ 160 }
     requires jobs { All (IsJob event.now) jobs.now }
     ensures rider { IsRider S.parts place.now.numbers.now place.now.turn.now b.new }

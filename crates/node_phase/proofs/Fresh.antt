@@ -17,7 +17,7 @@ use Rattle.run_definitions.specs.Order.{Placed, Task, Walks, handle, stops}
 use Rattle.seq_word.specs.Seen.{DrawerView}
 use Rattle.locked_node.specs.declared.marks.Mark.{Mark}
 use Rattle.locked_node.specs.Node.{OnStop}
-use Rattle.node_bearer.specs.Did.{AreMarksAt, BearerOf, Broke, Did, DidBy, GoesOn}
+use Rattle.node_bearer.specs.Did.{AreHandles, AreMarksAt, AreOfLast, BearerOf, Broke, Did, DidBy, GoesOn, IsMovedOver}
 use Rattle.node_bearer.specs.Marked.{AreShown, IsBehind, IsFrom, IsSpentSeen}
 use Rattle.node_bearer.proofs.Turning.{on_stop}
 use Rattle.node_phase.specs.Worked.{IsFresh, Worked}
@@ -63,8 +63,8 @@ nothing_shown marks d w = record {
 }
 
 pub did_nothing : (k number : ℕ) (tasks : List Task) (own : List (ℕ × Mark)) (marks : List Mark) (lines : List Sent) (d : DrawerView)
-    → own ≡ [] → lines ≡ [] → d.drawn ≡ [] → Did k number tasks tasks own marks lines number d
-did_nothing k number tasks own marks lines d o l w = record {
+    → own ≡ [] → lines ≡ [] → d.drawn ≡ [] → AreOfLast [] tasks → Did k number tasks tasks own marks lines number d
+did_nothing k number tasks own marks lines d o l w over = record {
   entries = [];
   own_are = subst (λ xs. AreMarksAt xs []) (sym o) tt;
   walks = subst (λ ls. Walks tasks [] ls tasks) (sym l) stops;
@@ -74,11 +74,22 @@ did_nothing k number tasks own marks lines d o l w = record {
   shown = subst (λ ls. AreShown marks ls d) (sym l) (nothing_shown marks d w);
   rise = subst (AllPairs (λ x y. x < y)) (sym w) (λ i j e lt within. absurd (omega (arith, within)));
   above = subst (All (λ x. All (λ y. y < x) d.noted)) (sym w) (All-nil (λ x. All (λ y. y < x) d.noted));
+  until = All-nil (IsMovedOver marks lines d);
+  over = over;
+  last = All-nil (λ (p : Placed). p.at < length marks);
 }
+
+are_handles : (events : List Event) → AreHandles (map handle events)
+are_handles [] = tt
+are_handles (e ∷ events) = are_handles events
+
+over_nothing : (events : List Event) → AreOfLast [] (map handle events)
+over_nothing [] = tt
+over_nothing (e ∷ events) = are_handles events
 
 module _ {F : Type 0} (k : ℕ) (events : List Event) (old b : BearerOf F) where
   begins : IsFresh old → DidBy k old.number (map handle events) (map handle events) old
-  begins fresh = did_nothing k old.number (map handle events) old.pass.own old.pass.seen old.lines.items old.drawer fresh.own fresh.lines fresh.drawn
+  begins fresh = did_nothing k old.number (map handle events) old.pass.own old.pass.seen old.lines.items old.drawer fresh.own fresh.lines fresh.drawn (over_nothing events)
 
   pub worked_by : (r : Result (Unit {0}) Stop) (stop : Option Stop) → stop ≡ result_err r → GoesOn old b → IsFresh old
       → ((first : ℕ) (tasks : List Task) → DidBy k first tasks (map handle events) old → OnOk r (DidBy k first tasks [] b))

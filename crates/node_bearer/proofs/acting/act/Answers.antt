@@ -1,8 +1,8 @@
-use Rattle.std.proofs.Common.{◌++◌, ◌∷◌, ap, subst, sym}
+use Rattle.std.proofs.Common.{◌++◌, ◌∷◌, ◌≤◌, ap, subst, sym}
 use Rattle.run_definitions.specs.Order.{write_tasks}
 use Rattle.node_bearer.specs.Marked.{HasEntry}
 use Rattle.locked_node.specs.Node.{node_marks}
-use Rattle.node_bearer.proofs.Turning.{broke_left, did_left, entered, front_by, if_err, if_ok, on_stop}
+use Rattle.node_bearer.proofs.Turning.{broke_left, did_left, entered, front_by, if_err, if_ok, on_stop, taken_same}
 use Rattle.node_bearer.proofs.acting.act.Goals as goal
 
 pub returns-clause-did : goal.returns-clause-did
@@ -15,6 +15,10 @@ returns-clause-did g c = λ first tasks rest task is h.
 pub returns-clause-entry : goal.returns-clause-entry
 returns-clause-entry g c =
     if_ok c.handle_one-result.result (λ a. subst (λ ms. HasEntry ms a.at c.args.event.now a.jobs c.handle_one-result.new.b.drawer.informed) (sym (ap (λ p. p.seen) c.leave.ensures.frame))) c.handle_one-result.ensures.entry
+
+pub returns-clause-since : goal.returns-clause-since
+returns-clause-since g c =
+    if_ok c.handle_one-result.result (λ a. subst (λ n. n ≤ a.at) (taken_same g.F.Flash.chip c.enter-node.result c.args.place.now.turn.now.first c.enter-node.ensures.origin)) c.handle_one-result.ensures.since
 
 pub returns-clause-stopped : goal.returns-clause-stopped
 returns-clause-stopped g c = λ first tasks rest task is h.

@@ -1,10 +1,10 @@
-use Rattle.std.proofs.Common.{◌+◌, ◌∙◌, ◌∷◌, ◌++◌, IsTrue, ap, drop, map, refl, subst, sym}
+use Rattle.std.proofs.Common.{◌+◌, ◌∙◌, ◌∷◌, ◌++◌, ◌≤◌, IsTrue, ap, drop, map, refl, subst, sym}
 use Rattle.std.proofs.lemmas.List.{at_drop_more, get_or_default}
 use Rattle.run_definitions.specs.Order.{handle, is_outside, write_tasks}
 use Rattle.locked_node.specs.Node.{node_marks}
 use Rattle.node_bearer.specs.Did.{DidBy, IsFor}
 use Rattle.node_bearer.specs.Turns.{after_turn}
-use Rattle.node_bearer.proofs.Turning.{front_more, numbered, stops}
+use Rattle.node_bearer.proofs.Turning.{front_more, numbered, stops, taken_same}
 use Rattle.node_bearer.proofs.acting.handle_all.Goals as goal
 
 pub returns-in_err-answered-clause-stopped : goal.returns-in_err-answered-clause-stopped
@@ -32,6 +32,10 @@ returns-then-ends_turn-clause-did g c = λ first tasks rest e h.
     let a = c.in_ok-answered.answered in
     subst (λ x. DidBy k first tasks (write_tasks a.at 0 x a.jobs ++ later) (after_turn c.handle_one.new.b c.handle_one.new.node))
     (c.index-events-i.is ∙ get_or_default events i event e c.loop-i-test.true) (c.in_ok-answered.ensures.did first tasks later (handle event) is was)
+
+pub returns-then-ends_turn-clause-since : goal.returns-then-ends_turn-clause-since
+returns-then-ends_turn-clause-since g c =
+    subst (λ n. n ≤ c.in_ok-answered.answered.at) (taken_same g.F.Flash.chip c.loop-i.node c.args.node.now c.loop-i.invariant.origin) c.in_ok-answered.ensures.since
 
 pub loop-i-preserved : goal.loop-i-preserved
 loop-i-preserved g c =

@@ -1,10 +1,15 @@
+use Rattle.std.proofs.Common.{subst, sym}
+use Rattle.locked_node.specs.Asked.{WasAsked}
 use Rattle.locked_node.specs.Node.{node_marks}
-use Rattle.node_bearer.proofs.Turning.{asked_front, did_left, did_owing, did_visited, entered, front_by, if_err, off_left, on_ok, on_stop, stopped_bare}
+use Rattle.node_bearer.proofs.Turning.{asked_front, did_left, did_owing, did_visited, entered, front_by, if_err, off_left, on_ok, on_stop, stopped_bare, taken_same}
 use Rattle.node_bearer.proofs.acting.refill.Goals as goal
 
 -- it has seen the job that it draws for, and so the node has it
 pub refill-result-requires-clause-asked : goal.refill-result-requires-clause-asked
-refill-result-requires-clause-asked g c κs lives = asked_front c.args.b.now.pass.seen (node_marks c.enter-node.result) c.enter-node.ensures.seen c.requires.asked
+refill-result-requires-clause-asked g c κs lives =
+    let marks = node_marks c.enter-node.result in
+    subst (λ n. WasAsked n marks) (sym (taken_same g.F.Flash.chip c.enter-node.result c.args.place.now.turn.now.first c.enter-node.ensures.origin))
+    (asked_front c.args.place.now.turn.now.first.machine.taken c.args.b.now.pass.seen marks c.enter-node.ensures.seen c.requires.asked)
 
 pub returns-clause-did : goal.returns-clause-did
 returns-clause-did g c = λ k first tasks rest h.

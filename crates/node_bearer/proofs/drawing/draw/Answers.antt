@@ -29,7 +29,7 @@ raise-requires-clause-found g c κs lives =
     (cause.1.looks, cause.3.0)
 
 pub raise-requires-clause-asked : goal.raise-requires-clause-asked
-raise-requires-clause-asked g c κs lives = asked_on c.args.b.now (freed c.loop.b) c.loop.invariant.on c.requires.asked
+raise-requires-clause-asked g c κs lives = asked_on c.args.place.now.turn.now.first.machine.taken c.args.b.now (freed c.loop.b) c.loop.invariant.on c.requires.asked
 
 pub loop-init : goal.loop-init
 loop-init g c = record {

@@ -8,7 +8,7 @@ use Rattle.node_bearer.proofs.jobs.do_job.Goals as goal
 pub draw-requires-clause-asked : goal.draw-requires-clause-asked
 draw-requires-clause-asked g c κs lives =
     let draws : is_drawing c.args.job.now ≡ true = cc (c.draws.ensures.value, c.if-not-draws.false) in
-    asked_by c.args.b.now.pass.seen c.args.at c.args.j c.args.event.now c.args.job.now c.args.b.now.drawer.informed c.requires.there draws
+    asked_by c.args.place.now.turn.now.first.machine.taken c.args.b.now.pass.seen c.args.at c.args.j c.args.event.now c.args.job.now c.args.b.now.drawer.informed c.requires.since c.requires.there draws
 
 pub returns-then-not-draws-clause-on : goal.returns-then-not-draws-clause-on
 returns-then-not-draws-clause-on g c = on_written c.args.b.now c.plain_job.new.b c.plain_job.ensures.frame

@@ -37,4 +37,5 @@ invariant_of-self g c =
         past = past_more (g.F.Flash.chip held.start) (g.F.Flash.chip held.flash) (g.F.Flash.chip c.arm.new.self) h.later.past kept.past;
       };
       asked = h.asked;
+      taken = h.taken;
     }

@@ -1,4 +1,4 @@
-use Rattle.std.proofs.Common.{◌≡◌, ◌∙◌, ◌+◌, false, ◌∷◌, ◌++◌, [], ap, arith, length, refl, subst, sym}
+use Rattle.std.proofs.Common.{◌≡◌, ◌∙◌, ◌+◌, ◌≤◌, false, ◌∷◌, ◌++◌, [], ap, arith, length, length-append, refl, subst, sym}
 use Rattle.machine_contract.specs.declared.answers.Hand.TheVariants as H
 use Rattle.machine_contract.specs.Refused.{IsRefused}
 use Rattle.machine_contract.specs.Opening.{found_of}
@@ -7,9 +7,10 @@ use Rattle.seq_word.specs.Seen.{last_word, went_to}
 use Rattle.turn_lock.specs.Entries.{IsPrefix}
 use Rattle.locked_node.specs.Asked.{AreAsked}
 use Rattle.locked_node.specs.declared.marks.Mark.TheVariants as M
-use Rattle.locked_node.specs.Node.{HasBeenTold, NodeView, node_marks}
+use Rattle.locked_node.specs.Node.{HasBeenTold, NodeView, node_marks, origin_of}
 use Rattle.locked_node.specs.Stands.{Holds}
 use Rattle.locked_node.proofs.Asking.{asked_entry, holds_on}
+use Rattle.locked_node.proofs.Behind.{origin_entry, origin_event}
 use Rattle.locked_node.proofs.Counts.{entered, entered_front, front_more, length_marks}
 use Rattle.locked_node.proofs.Told.{last_more, moves_long, told_last}
 use Rattle.locked_node.proofs.node.Node.handle.Goals as goal
@@ -88,6 +89,51 @@ returns-in-Ok-clause-informed g c =
     ap (λ m. last_word (view m).moves) c.inform.ensures.same ∙ ap (λ m. last_word m.moves) c.in-Ok.ensures.ok ∙ last_more old.moves (last_word words) in
     subst (HasBeenTold c.inform.new.d.informed) (sym is) (subst (λ x. HasBeenTold x (last_word words)) (sym (ap (λ d. d.informed) c.inform.ensures.informed)) (told_last c.args.drawer.now.informed words))
 
+-- the entry has the refills before it, and none was in hand
+pub returns-in-Ok-clause-origin : goal.returns-in-Ok-clause-origin
+returns-in-Ok-clause-origin g c =
+    let view = g.M.Machine.view in
+    let chip = g.F.Flash.chip in
+    let held = c.deref_mut-held.result.now in
+    let old : NodeView g.row.F.Denot = record { machine = view held.machine; start = held.start; flash = held.flash; stops = held.stops } in
+    let new : NodeView g.row.F.Denot = record { machine = view c.inform.new.self; start = held.start; flash = c.handle.new.flash; stops = held.stops } in
+    let same : old ≡ c.args.self.now = ap (λ x. record { machine = view x.machine; start = x.start; flash = x.flash; stops = x.stops }) c.deref_mut-held.ensures.value ∙ c.self.view_is in
+    let h = subst (λ x. Holds g.M.Machine.stands view chip x.machine x.start x.flash x.stops) (sym c.deref_mut-held.ensures.value) c.self.invariant in
+    let e = c.in-Ok.ensures in
+    let life = c.tells.ensures.known (found_of (chip held.start)) held.flash h.over held.machine h.tie in
+    let entry = entry_for old.machine c.args.bearer c.args.number c.args.event.now c.in-Ok.answered.answer c.in-Ok.answered.jobs in
+    origin_entry chip old new refl e.frame.setting entry (last_word (went_to (g.M.Machine.advances c.handle.new.self))) (view c.handle.new.self).mark (ap view c.inform.ensures.same ∙ e.ok)
+    h.taken (life.idle e.usable) refl
+    ∙ ap (origin_of chip) same
+
+-- an event in hand is no refill
+pub returns-in-Err-Flash-clause-origin : goal.returns-in-Err-Flash-clause-origin
+returns-in-Err-Flash-clause-origin g c =
+    let view = g.M.Machine.view in
+    let chip = g.F.Flash.chip in
+    let held = c.deref_mut-held.result.now in
+    let left = c.deref_mut-in-Err-Flash.result.now in
+    let old : NodeView g.row.F.Denot = record { machine = view held.machine; start = held.start; flash = held.flash; stops = held.stops } in
+    let new : NodeView g.row.F.Denot = record { machine = view left.machine; start = left.start; flash = left.flash; stops = left.stops + 1 } in
+    let closes = subst (λ s. IsRefused chip (H.OfEvent c.args.event.now) old.machine (view c.handle.new.self) held.flash c.handle.new.flash s) c.in-Err-Flash.field-0-is c.in-Err-Flash.ensures.refused in
+    let same : old ≡ c.args.self.now = ap (λ x. record { machine = view x.machine; start = x.start; flash = x.flash; stops = x.stops }) c.deref_mut-held.ensures.value ∙ c.self.view_is in
+    let h = subst (λ x. Holds g.M.Machine.stands view chip x.machine x.start x.flash x.stops) (sym c.deref_mut-held.ensures.value) c.self.invariant in
+    let life = c.tells.ensures.known (found_of (chip held.start)) held.flash h.over held.machine h.tie in
+    let at = c.deref_mut-in-Err-Flash.ensures.value in
+    origin_event chip old new (ap (λ x. x.start) at) (ap (λ x. (chip x.flash).setting) at ∙ c.in-Err-Flash.ensures.frame.setting) c.args.event.now (view c.handle.new.self).mark
+    (ap (λ x. view x.machine) at ∙ closes.now) (life.idle closes.usable)
+    ∙ ap (origin_of chip) same
+
+-- no more was taken than there were entries, and this one is behind them
+pub returns-in-Ok-clause-since : goal.returns-in-Ok-clause-since
+returns-in-Ok-clause-since g c =
+    let view = g.M.Machine.view in
+    let a = c.in-Ok.answered in
+    let h = c.self.invariant in
+    let m = view c.self.inside.held.value.machine in
+    let at : a.at ≡ length m.entries = subst (λ x. a.at ≡ length (view x.machine).entries) c.deref_mut-held.ensures.value c.in-Ok.ensures.place in
+    subst (λ v. v.machine.taken ≤ a.at) c.self.view_is (subst (λ n. m.taken ≤ n) (sym at) h.taken)
+
 -- an entry more, with the refills before it
 pub invariant_of-self : goal.invariant_of-self
 invariant_of-self g c =
@@ -99,4 +145,5 @@ invariant_of-self g c =
     let entry = entry_for old c.args.bearer c.args.number c.args.event.now c.in-Ok.answered.answer c.in-Ok.answered.jobs in
     subst (λ m. Holds g.M.Machine.stands view g.F.Flash.chip m held.start c.handle.new.flash held.stops) (sym c.inform.ensures.same)
     (holds_on g.M.Machine.stands view g.F.Flash.chip held.machine c.handle.new.self held.start held.flash c.handle.new.flash held.stops h e.usable (ap (λ m. m.closed) e.ok) e.frame e.no_fault e.kept
-    (subst (λ m. AreAsked m.entries m.fills) (sym e.ok) (asked_entry old.entries entry old.fills refl h.asked)))
+    (subst (λ m. AreAsked m.entries m.fills) (sym e.ok) (asked_entry old.entries entry old.fills refl h.asked))
+    (subst (λ m. m.taken ≤ length m.entries) (sym e.ok) (omega (arith, h.taken, length-append old.entries (entry ∷ [])))))

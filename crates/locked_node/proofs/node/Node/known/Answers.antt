@@ -18,6 +18,7 @@ returns-clause-known g c =
       no_fault = h.no_fault;
       later = h.later;
       asked = h.asked;
+      taken = h.taken;
     })
 
 pub returns-clause-stands : goal.returns-clause-stands
