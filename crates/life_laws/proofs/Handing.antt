@@ -28,7 +28,7 @@ use Rattle.node_phase.proofs.Parting.{entries_at, index_map, list_at_map, part_a
 use Rattle.life_laws.specs.Hands.{AreHandledAll, HandComes, IsInHand, IsNextIn, events_of, here, later, outs}
 use Rattle.life_laws.specs.Phases.{AreDone, both_of, entries_by}
 use Rattle.life_laws.proofs.Ordering.{all_parts, fall_more}
-use Rattle.life_laws.proofs.Placing.{CameTo, came_to, of_bearer_from}
+use Rattle.life_laws.proofs.Placing.{CameTo, came_to, less_or, of_bearer_from}
 use Rattle.life_laws.proofs.Walking.{next_out, next_task, outs_all}
 
 outs_append : (xs ys : List Entry) → outs (xs ++ ys) ≡ outs xs ++ outs ys
@@ -71,11 +71,6 @@ one_event n (x ∷ es) [] k event other at (zero, lt, e) = absurd (true≢false 
 one_event n (x ∷ es) [] k event other at (suc j, lt, e) = one_event (n + 1) es [] k event other at (j, omega (arith, lt), e)
 one_event n (x ∷ es) (m ∷ ms) k event other at (zero, lt, e) = absurd (true≢false (sym (ap has_event e)))
 one_event n (x ∷ es) (m ∷ ms) k event other at (suc j, lt, e) = one_event (n + 1) es ms k event other at (j, omega (arith, lt), e)
-
-less_or : (j n : ℕ) → (j < n) ⊎ (n ≤ j)
-less_or j zero = inr (omega arith)
-less_or zero (suc n) = inl (omega arith)
-less_or (suc j) (suc n) = ⊎_elim (λ lt. inl (omega (arith, lt))) (λ le. inr (omega (arith, le))) (less_or j n)
 
 empty_or : {A : Type 0} (xs : List A) → (xs ≡ []) ⊎ (xs ≢ [])
 empty_or [] = inl refl

@@ -1,6 +1,8 @@
 pub mod Placing
 pub mod Ordering
 pub mod Stopping
+pub mod Showing
+pub mod Rising
 pub mod Pairing
 pub mod Drawing
 pub mod Walking

@@ -32,7 +32,7 @@ use Rattle.locked_node.specs.Node.{NodeView, event_in, handled_marks, node_marks
 use Rattle.node_bearer.specs.Did.{BearerOf, Did}
 use Rattle.node_bearer.specs.Marked.{AreShown, HasOwnLooks, IsFrom, IsSpentSeen, end_told, ends_told, shown_at, shown_in, words_seen}
 use Rattle.node_bearer.proofs.Doing.{shown_prefix, told_each, words_more}
-use Rattle.node_bearer.proofs.Lists.{get_longer, times_append}
+use Rattle.node_bearer.proofs.Lists.{times_append}
 use Rattle.node_phase.specs.declared.bearers.Done.{Done}
 use Rattle.node_phase.specs.Part.{HadMemory, lines_of}
 use Rattle.node_phase.specs.Worked.{WasPhase, Worked, done_of, drawn_by, looks_by}
@@ -40,38 +40,8 @@ use Rattle.node_phase.proofs.Parting.{index_map}
 use Rattle.life_laws.specs.Pairs.{AreShownBy, IsFromMove, PairsSo, ShowsIn, all_of, all_shown}
 use Rattle.life_laws.specs.Phases.{both_of}
 use Rattle.life_laws.proofs.Placing.{CameTo, IsMoveOf, came_to, no_item}
-
--- An entry that is shown among the marks is among the entries.
-stop_is_none : (k : ℕ) (i : ℕ) (e : Entry) (move : ℕ) → slice_get (replicate k (M.Stopped None)) i ≡ Some (M.Handled e move) → ⊥
-stop_is_none zero i e move h = cc
-stop_is_none (suc k) zero e move h = cc
-stop_is_none (suc k) (suc i) e move h = stop_is_none k i e move h
-
-unmarked : (es : List Entry) (ms : List ℕ) (k : ℕ) (event : Option Event) (i : ℕ) (e : Entry) (move : ℕ) → slice_get (handled_marks es ms ++ stop_marks k event) i ≡ Some (M.Handled e move) → slice_get es i ≡ Some e
-unmarked [] ms zero event i e move h = cc
-unmarked [] ms (suc k) event zero e move h = cc
-unmarked [] ms (suc k) event (suc i) e move h = absurd (stop_is_none k i e move h)
-unmarked (x ∷ es) [] k event zero e move h = let one : M.Handled x 0 ≡ M.Handled e move = cc in cc
-unmarked (x ∷ es) [] k event (suc i) e move h = unmarked es [] k event i e move h
-unmarked (x ∷ es) (m ∷ ms) k event zero e move h = let one : M.Handled x m ≡ M.Handled e move = cc in cc
-unmarked (x ∷ es) (m ∷ ms) k event (suc i) e move h = unmarked es ms k event i e move h
-
-shown_mark : (es : List Entry) (ms : List ℕ) (k : ℕ) (event : Option Event) (s : Sent) (y : Shown) (o : Option Mark) → slice_get (handled_marks es ms ++ stop_marks k event) s.entry ≡ o
-    → option_and_then (λ m. shown_at m s) o ≡ Some y → shown_of es s ≡ Some y
-shown_mark es ms k event s y None e h = cc
-shown_mark es ms k event s y (Some (M.Stopped hand)) e h = cc
-shown_mark es ms k event s y (Some (M.Handled x move)) e h = rw (unmarked es ms k event s.entry x move e) h
-
-found_entries : (es : List Entry) (ms : List ℕ) (k : ℕ) (event : Option Event) (lines : List Sent) (shows : List Shown) → map (shown_in (handled_marks es ms ++ stop_marks k event)) lines ≡ map Some shows
-    → map (shown_of es) lines ≡ map Some shows
-found_entries es ms k event [] shows h = h
-found_entries es ms k event (s ∷ lines) [] h = cc
-found_entries es ms k event (s ∷ lines) (y ∷ shows) h =
-    let head : shown_in (handled_marks es ms ++ stop_marks k event) s ≡ Some y = cc in
-    let tail : map (shown_in (handled_marks es ms ++ stop_marks k event)) lines ≡ map Some shows = cc in
-    let one = shown_mark es ms k event s y (slice_get (handled_marks es ms ++ stop_marks k event) s.entry) refl head in
-    let more = found_entries es ms k event lines shows tail in
-    cc
+use Rattle.life_laws.proofs.Rising.{until_more}
+use Rattle.life_laws.proofs.Showing.{found_each, found_entries, found_more, shown_of_more}
 
 -- an entry that is shown, and the move behind it, are among the marks
 marked : (es : List Entry) (ms : List ℕ) (k : ℕ) (event : Option Event) (i : ℕ) (e : Entry) (move : ℕ) → slice_get es i ≡ Some e → slice_get ms i ≡ Some move
@@ -101,34 +71,10 @@ from_marks es ms k event s h = λ line move word shown has told.
     let other : shown_of es s ≡ shown_by s there.0 = ap (option_and_then (shown_by s)) there.1 in
     h line (M.Handled there.0 move) word (same ∙ sym other ∙ shown) mark told
 
--- more entries, and more looks
-shown_of_more : (es more : List Entry) (s : Sent) (y : Shown) (o : Option Entry) → slice_get es s.entry ≡ o
-    → option_and_then (λ e. option_map (λ j. record { entry = e; job = j; outcome = s.outcome }) (slice_get e.jobs s.job)) o ≡ Some y → shown_of (es ++ more) s ≡ Some y
-shown_of_more es more s y None e h = cc
-shown_of_more es more s y (Some x) e h = rw (get_longer es more s.entry x e) h
-
-found_more : (es more : List Entry) (lines : List Sent) (shows : List Shown) → map (shown_of es) lines ≡ map Some shows → map (shown_of (es ++ more)) lines ≡ map Some shows
-found_more es more [] shows h = h
-found_more es more (s ∷ lines) [] h = cc
-found_more es more (s ∷ lines) (y ∷ shows) h =
-    let head : shown_of es s ≡ Some y = cc in
-    let tail : map (shown_of es) lines ≡ map Some shows = cc in
-    let one = shown_of_more es more s y (slice_get es s.entry) refl head in
-    let rest = found_more es more lines shows tail in
-    cc
-
+-- more looks
 spent_in : (looks more : List Look) (o : Outcome) → ((x : Look) → Contains looks x → Contains more x) → IsSpentSeen looks o → IsSpentSeen more o
 spent_in looks more (O.Spent iv) f h = f _ h
 spent_in looks more _ f h = tt
-
-no_more : {A : Type 0} (x : A) (xs : List A) → x ∷ xs ≡ [] → ⊥
-no_more x xs h = cc
-
-found_each : (f : Sent → Option Shown) (lines : List Sent) (shows : List Shown) → map f lines ≡ map Some shows → (k : ℕ) (s : Sent) → k < length lines → (y : Shown) × (f (slice_index_or lines k s) ≡ Some y)
-found_each f [] shows h k s lt = absurd (omega (arith, lt))
-found_each f (x ∷ lines) [] h k s lt = absurd (no_more (f x) (map f lines) h)
-found_each f (x ∷ lines) (y ∷ shows) h zero s lt = let head : f x ≡ Some y = cc in (y, head)
-found_each f (x ∷ lines) (y ∷ shows) h (suc k) s lt = let tail : map f lines ≡ map Some shows = cc in found_each f lines shows tail k s (omega (arith, lt))
 
 -- what stood behind entries of before are the moves there still
 abbrev AreKept : List Entry → List ℕ → List ℕ → Type 0
@@ -375,7 +321,8 @@ pub within_drawn : (drawns : List (List ℕ)) (d : List ℕ) → ((x : ℕ) → 
 within_drawn drawns d counted x c = times_contains x d (omega (arith, counted x, contains_times x (all_of drawns) c))
 
 module _ {F : Type 0} (old new : NodeView F) (d e : DrawerView) (events : List (List Event)) (counts : List ℕ) (dones : List Done) (sends : List (List Sent))
-    (h : PairsSo old.machine.entries old.machine.moves sends d) (w : WasPhase old new d e events counts dones) (memory : HadMemory dones) (none : old.stops ≡ 0) (many : length sends ≡ length counts) where
+    (h : PairsSo old.machine.entries old.machine.moves sends d) (w : WasPhase old new d e events counts dones) (memory : HadMemory dones) (none : old.stops ≡ 0) (many : length sends ≡ length counts)
+    (long : length new.machine.moves ≡ length new.machine.entries) where
   abbrev came : CameTo old new
   came = came_to old new none w.front
 
@@ -454,6 +401,8 @@ module _ {F : Type 0} (old new : NodeView F) (d e : DrawerView) (events : List (
         (within_drawn h.drawns d.drawn h.counted) each same_count);
     counted = λ x. omega (arith, counted_both x h.drawns w.bearers, h.counted x, ap (times x) w.drawn, times_append x d.drawn (flat_map drawn_by w.bearers));
     own = own_more;
+    long = omega (arith, long);
+    until = until_more old new d e events counts dones sends h w memory none many (within_drawn h.drawns d.drawn h.counted);
   }
 
 -- The lines of all bearers together.

@@ -1,5 +1,5 @@
 -- The entries of a history among the marks of a node, and with their places.
-use Rattle.std.proofs.Common.{◌≡◌, ◌∙◌, ◌⊎◌, inl, inr, ℕ, zero, suc, ◌+◌, Bool, true, false, List, [], ◌∷◌, ◌++◌, length, map, drop, Option, Some, None, refl, sym, ap, arith, append-nil}
+use Rattle.std.proofs.Common.{◌≡◌, ◌∙◌, ◌⊎◌, inl, inr, ⊎_elim, ℕ, zero, suc, ◌+◌, ◌<◌, ◌≤◌, Bool, true, false, List, [], ◌∷◌, ◌++◌, length, map, drop, Option, Some, None, refl, sym, ap, arith, append-nil}
 use Rattle.std.specs.Prelude.{◌==◌, replicate}
 use Rattle.std.specs.List.{enumerate_from, range_with_len, slice_get}
 use Rattle.std.proofs.Math.Seq.{drop-append_seam}
@@ -182,3 +182,8 @@ list_at_both (x ∷ xs) [] zero = sym (append-nil x)
 list_at_both (x ∷ xs) [] (suc k) = sym (append-nil (list_at xs k))
 list_at_both (x ∷ xs) (y ∷ ys) zero = refl
 list_at_both (x ∷ xs) (y ∷ ys) (suc k) = list_at_both xs ys k
+
+pub less_or : (j n : ℕ) → (j < n) ⊎ (n ≤ j)
+less_or j zero = inr (omega arith)
+less_or zero (suc n) = inl (omega arith)
+less_or (suc j) (suc n) = ⊎_elim (λ lt. inl (omega (arith, lt))) (λ le. inr (omega (arith, le))) (less_or j n)

@@ -1,20 +1,29 @@
 -- The lines of several phases, and the pairs that they draw.
-use Rattle.std.specs.Prelude.{◌≡◌, ℕ, ◌+◌, ◌^◌, ◌<◌, ◌≤◌, List, [], ◌∷◌, map, All, AllPairs, Some, ⊤}
+use Rattle.std.specs.Prelude.{◌≡◌, ℕ, ◌+◌, ◌^◌, ◌<◌, ◌≤◌, true, List, [], ◌∷◌, length, map, All, AllPairs, Some, ⊤}
 use Rattle.std.specs.List.{filter_map, flat_map, slice_get}
 use Rattle.mesh_base.specs.Pairs.{word_of}
+use Rattle.mesh_base.specs.declared.pair.Pair.{Pair}
 use Rattle.mesh_types.specs.declared.history.Entry.{Entry}
 use Rattle.mesh_types.specs.declared.history.Sent.{Sent}
-use Rattle.report_definitions.specs.Record.{Shown, shown_of}
+use Rattle.report_definitions.specs.Record.{Shown, list_at, shown_of}
+use Rattle.run_definitions.specs.Order.{is_outside}
+use Rattle.run_definitions.specs.Lines.{drawn_of}
 use Rattle.run_definitions.specs.RunOf.{draws, word_told, words_told}
 use Rattle.seq_word.specs.Rule.{times}
 use Rattle.seq_word.specs.Seen.{DrawerView}
 use Rattle.seq_word.specs.declared.looks.Look.{Look}
-use Rattle.node_bearer.specs.Marked.{HasOwnLooks, IsSpentSeen, ends_told}
+use Rattle.node_bearer.specs.Marked.{HasOwnLooks, IsRiseAt, IsSpentSeen, ends_told}
 
 -- The line tells no word below where the counter had been moved to behind its entry, as these moves say, one for each entry.
 abbrev pub IsFromMove : List Entry → List ℕ → Sent → Type 0
 IsFromMove entries moves s = (line : Shown) (move word : ℕ) → shown_of entries s ≡ Some line → slice_get moves s.entry ≡ Some move
     → word_told line.job line.outcome ≡ Some word → move ≤ word
+
+-- The line draws no word at or above one that the counter was moved to with a later event from outside of this bearer.
+abbrev pub IsUntilMove : ℕ → List Entry → List ℕ → Sent → Type 0
+IsUntilMove k entries moves s = (line : Shown) (p : Pair) (at : ℕ) (entry : Entry) (move : ℕ) → shown_of entries s ≡ Some line
+    → drawn_of line.job line.outcome ≡ Some p → slice_get entries at ≡ Some entry → entry.bearer ≡ k → is_outside entry.event ≡ true
+    → s.entry < at → IsRiseAt moves at move → word_of p < move
 
 -- What the lines of a bearer show is among these entries; they draw these words, each with a SEQ below 2^24. A job's number, from 1 on, has 8
 -- bits. None tells a word below that of an earlier one, or below where the counter had been moved to behind its entry.
@@ -49,3 +58,7 @@ pub record PairsSo (entries : List Entry) (moves : List ℕ) (sends : List (List
   pub shown : AreShownBy entries moves sends drawns d.looks
   pub counted : (x : ℕ) → times x (all_of drawns) ≡ times x d.drawn
   pub own : HasOwnLooks (ends_told (all_shown entries sends)) d.looks
+  -- a move is told behind each entry
+  pub long : length entries ≤ length moves
+  -- with what a bearer has handled later the counter was moved above all that its lines draw
+  pub until : (k : ℕ) → All (IsUntilMove k entries moves) (list_at sends k)

@@ -27,7 +27,7 @@ pub fn pairs_law<F>()
     ensures more { (old new : NodeView F) (d e : DrawerView) (events : List (List Event)) (counts : List ℕ)
         (dones : List Done) (sends : List (List Sent))
         → PairsSo old.machine.entries old.machine.moves sends d → WasPhase old new d e events counts dones → HadMemory dones
-        → old.stops ≡ 0 → length sends ≡ length counts
+        → old.stops ≡ 0 → length sends ≡ length counts → length new.machine.moves ≡ length new.machine.entries
         → PairsSo new.machine.entries new.machine.moves (both_of sends (map lines_of dones)) e }
 {}
 

@@ -9,7 +9,7 @@ use Rattle.mesh_types.specs.declared.report.Opened.{Opened}
 use Rattle.mesh_types.specs.declared.report.Opened.TheVariants as W
 use Rattle.mesh_types.specs.declared.report.ReportLine.{ReportLine}
 use Rattle.life_laws.specs.Hands.{HoldsNext}
-use Rattle.life_laws.specs.Pairs.{IsFromMove}
+use Rattle.life_laws.specs.Pairs.{IsFromMove, IsUntilMove}
 use Rattle.machine_contract.specs.Moved.{HasMoved}
 use Rattle.machine_contract.specs.Opening.{IsNodeFlash, IsUnwritten, MigratesOnly, found_of}
 use Rattle.machine_contract.specs.Refused.{IsUntouched, WasReset}
@@ -20,6 +20,7 @@ use Rattle.event_definitions.specs.Handling.{AreHandled}
 use Rattle.event_definitions.specs.History.{Told}
 use Rattle.event_definitions.specs.Role.{Role}
 use Rattle.report_definitions.specs.Report.{end_lines, opened_line}
+use Rattle.report_definitions.specs.Record.{list_at}
 use Rattle.run_definitions.specs.Order.{is_cut}
 use Rattle.seq_word.specs.Seen.{ClosedView}
 use Rattle.store_definitions.specs.Config.{config_of}
@@ -181,6 +182,8 @@ module _ (Stood : Standing) (role : Role) (image : List ℕ → Type 0) (hex : B
     pub moved : closed ≡ false → HasMoved role over (entries_told did) refills drawn.advances
     -- no line draws a word, or tells the end of an IV Index, below where the counter had been moved to behind its entry (`moves` of `paid`)
     pub from_moves : All (All (IsFromMove (entries_told did) all.machine.moves)) (sends_told bearers did)
+    -- nor does one draw a word at or above where it was moved to with a later event from outside of its bearer
+    pub until : (k : ℕ) → All (IsUntilMove k (entries_told did) all.machine.moves) (list_at (sends_told bearers did) k)
     -- an event from outside that its machine has in hand comes behind all lines of its bearer's events before
     pub hand : HoldsNext phases (entries_told did) (sends_told bearers did) all.machine
     -- without a phase nothing was written but what a migration of format 01 writes

@@ -14,6 +14,7 @@ use Rattle.mesh_types.specs.declared.history.Sent.{Sent}
 use Rattle.mesh_types.specs.declared.report.End.TheVariants as Ends
 use Rattle.mesh_types.specs.declared.report.Opened.TheVariants as W
 use Rattle.record_types.specs.declared.records.StoreRecord.{StoreRecord}
+use Rattle.report_definitions.specs.Record.{list_at}
 use Rattle.event_definitions.specs.Role.{Role}
 use Rattle.run_definitions.specs.Order.{Step, is_cut, phases_of}
 use Rattle.run_definitions.specs.RunOf.{LifeOf, Opens, cut_at_start, is_on, was_reset}
@@ -28,14 +29,14 @@ use Rattle.locked_node.specs.Asked.{AreAsked}
 use Rattle.locked_node.specs.Node.{NodeView}
 use Rattle.locked_node.specs.Stands.{HasMachine, IsLater, IsNode}
 use Rattle.life_laws.specs.Hands.{HoldsNext}
-use Rattle.life_laws.specs.Pairs.{IsFromMove, PairsSo}
+use Rattle.life_laws.specs.Pairs.{IsFromMove, IsUntilMove, PairsSo}
 use Rattle.life_laws.proofs.OneLife.{idle_life}
 use Rattle.life_laws.proofs.Pairing.{from_all}
 use Rattle.life_laws.specs.declared.plan.LifeLog.{LifeLog}
 use Rattle.machine_contract.specs.View.{MachineView}
 use Rattle.mesh_node.specs.Drawn.{TellsDrawn, opened_at}
-use Rattle.mesh_node.specs.Given.{WasGiven}
-use Rattle.mesh_node.proofs.Placed.{given_first}
+use Rattle.mesh_node.specs.Given.{WasFirst, WasGiven}
+use Rattle.mesh_node.proofs.Placed.{first_given}
 use Rattle.mesh_node.specs.Going.{IsOver}
 use Rattle.mesh_node.specs.Lives.{Lives, cut_calls, found_at, no_calls}
 use Rattle.life_laws.specs.declared.plan.PlanStep.{PlanStep}
@@ -105,7 +106,7 @@ module _ {M F : Type 0} (view : M → MachineView) (stands : FlashFound → Chip
     (bearers : ℕ) (few : bearers ≤ 8) (many : length log.sends.items ≡ bearers)
     (explained : IsExplained (chip node.flash)) (given : node.stops ≡ 0 → HasGiven plan (chip node.flash).setting.arm)
     (arm : IsOfPlan plan (chip node.flash).setting.arm)
-    (placed : (over : List StoreRecord) → IsRecovered (chip start).now over → IfSome (chip node.flash).setting.arm (WasGiven view (stands (found_of (chip start))) chip over plan)) (calls : IfSome (cut_calls log.end) (λ n. n ≡ (chip node.flash).changes))
+    (placed : (over : List StoreRecord) → IsRecovered (chip start).now over → IfSome (chip node.flash).setting.arm (WasGiven view (stands (found_of (chip start))) chip over node.machine plan)) (calls : IfSome (cut_calls log.end) (λ n. n ≡ (chip node.flash).changes))
     (saved : (chip node.flash).setting.saved ≡ (chip start).setting.saved) where
   begun_is : begun ≡ h.over
   begun_is = one (chip start).now begun h.over read (subst (λ s. IsRecovered (chip s).now h.over) is_start h.read)
@@ -153,7 +154,6 @@ module _ {M F : Type 0} (view : M → MachineView) (stands : FlashFound → Chip
         (subst (λ es. AreAsked es log.history.refills) (sym entries) (subst (AreAsked node.machine.entries) (sym refills) h.asked)));
     moved = λ off. subst (λ o. IfSome o (λ (words : ClosedView). HasMoved role h.over log.history.entries.items log.history.refills words.advances)) (sym drawn) (moved h.over read_over (sym cut ∙ off));
     armed = given_all;
-    given = placed h.over read_over;
     told = record {
       machine = held.machine;
       stood = subst (λ o. stands (found_of (chip start)) (chip node.flash) o held.machine) held_over (subst (λ s. stands (found_of (chip s)) (chip node.flash) held.over held.machine) is_start held.tie);
@@ -161,11 +161,13 @@ module _ {M F : Type 0} (view : M → MachineView) (stands : FlashFound → Chip
       refills = ap (λ m. m.fills) held.shows ∙ sym refills;
       closed = ap (λ m. m.closed) held.shows ∙ sym cut;
     };
+    given = subst (λ m. IfSome (chip node.flash).setting.arm (WasGiven view (stands (found_of (chip start))) chip h.over m plan)) (sym held.shows) (placed h.over read_over);
     paid = subst (λ m. IsLifeSoFar role image (found_of (chip start)) (chip node.flash) h.over m) (sym held.shows)
         (subst (λ s. IsLifeSoFar role image (found_of (chip s)) (chip node.flash) h.over node.machine) is_start h.life);
     from = subst (λ (m : MachineView). All (All (IsFromMove (life_of log).entries m.moves)) (life_of log).sends) (sym held.shows)
         (subst (λ (es : List Entry). All (All (IsFromMove es node.machine.moves)) (life_of log).sends) (sym entries)
         (from_all node.machine.entries node.machine.moves (life_of log).sends over.pairs.drawns d.looks over.pairs.shown));
+    until = subst (λ (m : MachineView). (k : ℕ) → All (IsUntilMove k (life_of log).entries m.moves) (list_at (life_of log).sends k)) (sym held.shows) pairs.until;
     hand = subst (λ (m : MachineView). HoldsNext (phases_of plan) (life_of log).entries (life_of log).sends m) (sym held.shows)
         (subst (λ (es : List Entry). HoldsNext (phases_of plan) es (life_of log).sends node.machine) (sym entries) (holds_next role image chip (phases_of plan) node d (life_of log).sends h over));
     on = ap is_on opened;
@@ -221,7 +223,7 @@ module _ {M F : Type 0} (view : M → MachineView) (stands : FlashFound → Chip
         drawn = r.drawn;
         moved = r.moved;
         armed = λ steady other. given_one items new.setting.arm single r.arm (r.armed (subst IsTrue (sym (r.later.steady ∙ count.steady)) steady));
-        given = subst (λ f. IfSome new.setting.arm (WasGiven view (stands f) chip r.over plan)) found r.given;
+        first = λ off. absurd (true≢false (sym r.on ∙ off));
         carried = λ steady whole. carried_out (r.later.steady ∙ count.steady) now (r.no_fault whole ∙ count.faults) steady;
         torn = λ steady cut. torn_last (r.later.steady ∙ count.steady) now r.paid.once (subst (λ n. n < new.faults) now (r.cause cut)) steady;
         reads = omega (arith, r.paid.reads, unread);
@@ -232,8 +234,10 @@ module _ {M F : Type 0} (view : M → MachineView) (stands : FlashFound → Chip
           refills = r.told.refills;
           closed = r.told.closed;
         };
+        given = λ on. subst (λ f. IfSome new.setting.arm (WasGiven view (stands f) chip r.over (view r.told.machine) plan)) found r.given;
         paid = λ on. subst (λ f. IsLifeSoFar role image f new r.over (view r.told.machine)) found r.paid;
         from = λ on. r.from;
+        until = λ on. r.until;
         hand = λ on. r.hand;
         early = λ off. absurd (true≢false (sym r.on ∙ off));
       }
@@ -267,13 +271,15 @@ module _ {M F : Type 0} (view : M → MachineView) (stands : FlashFound → Chip
         drawn = subst (TellsDrawn (life_of log)) (sym none) off;
         moved = λ runs. subst (λ o. IfSome o (λ (words : ClosedView). HasMoved role u.over log.history.entries.items log.history.refills words.advances)) (sym none) tt;
         armed = armed;
-        given = subst (λ o. IfSome o (WasGiven view (stands (found_at old.faults start.now)) chip u.over plan)) (sym (ap (λ (s : Setting). s.arm) keeps.setting ∙ first)) (given_first view (stands (found_at old.faults start.now)) chip u.over items);
+        first = λ off. subst (λ o. IfSome o (WasFirst plan)) (sym (ap (λ (s : Setting). s.arm) keeps.setting ∙ first)) (first_given items);
         carried = λ steady whole. carried_out (keeps.steady ∙ count.steady) (ap (λ (s : Setting). s.faults) keeps.setting ∙ began) (stays whole ∙ count.faults) steady;
         torn = λ steady cut. torn_last (keeps.steady ∙ count.steady) (ap (λ (s : Setting). s.faults) keeps.setting ∙ began) (once cut) (subst (λ n. n < new.faults) count.faults (failed cut)) steady;
         reads = omega (arith, most, unread);
         told = λ on. absurd (true≢false (sym on ∙ off));
+        given = λ on. absurd (true≢false (sym on ∙ off));
         paid = λ on. absurd (true≢false (sym on ∙ off));
         from = λ on. absurd (true≢false (sym on ∙ off));
+        until = λ on. absurd (true≢false (sym on ∙ off));
         hand = λ on. absurd (true≢false (sym on ∙ off));
         early = λ off. early;
       }

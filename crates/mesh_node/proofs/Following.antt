@@ -18,6 +18,7 @@ use Rattle.life_laws.specs.Pairs.{PairsSo}
 use Rattle.life_laws.specs.Phases.{AreDone}
 use Rattle.life_laws.proofs.Ordering.{none_done, ordered}
 use Rattle.life_laws.proofs.Pairing.{empty_all, no_ends, no_pairs}
+use Rattle.life_laws.proofs.Rising.{no_until}
 use Rattle.life_laws.specs.declared.plan.PlanStep.{PlanStep}
 use Rattle.life_laws.specs.declared.plan.PlanStep.TheVariants as P
 use Rattle.mesh_node.specs.Going.{IsGoing, IsOver}
@@ -40,7 +41,7 @@ pub going_first : {F : Type 0} (node : NodeView F) (d : DrawerView) (n : ℕ) (s
 going_first node d n sends counts entries live drawn no_sends no_counts =
     let first : IsGoing [] node d (replicate n []) (replicate n 0) = record {
       done = subst (λ es. AreDone [] es (replicate n []) (replicate n 0)) (sym entries) (none_done (replicate n []) (replicate n 0) (empty_at n) (zero_at n));
-      pairs = subst (λ es. PairsSo es node.machine.moves (replicate n []) d) (sym entries) (record { drawns = replicate n []; shown = no_pairs n node.machine.moves d.looks; counted = λ x. ap (times x) (empty_all n ∙ sym drawn); own = no_ends n d.looks });
+      pairs = subst (λ es. PairsSo es node.machine.moves (replicate n []) d) (sym entries) (record { drawns = replicate n []; shown = no_pairs n node.machine.moves d.looks; counted = λ x. ap (times x) (empty_all n ∙ sym drawn); own = no_ends n d.looks; until = λ k. no_until n node.machine.moves k; long = omega arith });
       handled = subst (AreHandledAll []) (sym entries) (λ k. refl);
       live = live;
       many = length-replicate n [] ∙ sym (length-replicate n 0);

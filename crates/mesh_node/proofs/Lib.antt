@@ -4,6 +4,7 @@ pub mod Following
 pub mod Ending
 pub mod Arming
 pub mod Giving
+pub mod Unfilled
 pub mod Placed
 pub mod Printing
 pub mod Drawn

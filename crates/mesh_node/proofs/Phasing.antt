@@ -1,5 +1,5 @@
 -- What a phase between a node and the node gives to a life, whoever ran it.
-use Rattle.std.proofs.Common.{◌≡◌, ◌∙◌, ℕ, ◌+◌, ◌<◌, ◌≤◌, Bool, true, false, List, [], ◌∷◌, ◌++◌, length, map, drop, refl, sym, ap, subst, length-append, arith}
+use Rattle.std.proofs.Common.{◌≡◌, ◌≢◌, ◌∙◌, ℕ, ◌+◌, ◌<◌, ◌≤◌, Bool, true, false, List, [], ◌∷◌, ◌++◌, length, map, drop, refl, sym, ap, subst, length-append, arith}
 use Rattle.std.specs.Prelude.{All, slice_index_or}
 use Rattle.std.proofs.lemmas.List.{length-map}
 use Rattle.flash_model.specs.Chip.{Chip}
@@ -7,11 +7,14 @@ use Rattle.event_definitions.specs.Role.{Role}
 use Rattle.mesh_types.specs.declared.events.Event.{Event}
 use Rattle.mesh_types.specs.declared.history.Entry.{Entry}
 use Rattle.mesh_types.specs.declared.history.Sent.{Sent}
+use Rattle.machine_contract.specs.declared.answers.Hand.TheVariants as H
 use Rattle.node_limits.specs.declared.TheConstants.{BEARERS}
 use Rattle.run_definitions.specs.Order.{Does, Part, Placed, placed_from}
 use Rattle.seq_word.specs.Seen.{DrawerView}
 use Rattle.locked_node.specs.Node.{NodeView, origin_of}
 use Rattle.locked_node.specs.Stands.{IsNode}
+use Rattle.locked_node.proofs.Told.{moves_long}
+use Rattle.machine_contract.specs.Opening.{found_of}
 use Rattle.node_phase.specs.declared.bearers.Done.{Done}
 use Rattle.node_phase.specs.Part.{AreThrough, DoesPart, HadMemory, lines_of, part_of}
 use Rattle.node_phase.specs.Worked.{WasPhase, done_of}
@@ -21,6 +24,7 @@ use Rattle.life_laws.specs.Stopped.{HasStopped}
 use Rattle.life_laws.proofs.Pairing.{pairs_more}
 use Rattle.life_laws.proofs.Placing.{CameTo, came_to}
 use Rattle.life_laws.proofs.Stopping.{none_stopped, some_stopped}
+use Rattle.mesh_node.specs.Given.{IsUnfilled}
 use Rattle.mesh_node.specs.Going.{AreTold, IsBetween, IsGoing, IsOver}
 use Rattle.mesh_node.specs.Lives.{IsShort}
 use Rattle.mesh_node.specs.Steps.{IsSameNode}
@@ -29,6 +33,7 @@ use Rattle.mesh_node.specs.declared.phases.Seats.{Seats}
 use Rattle.mesh_node.specs.declared.told.PhaseLog.{PhaseLog}
 use Rattle.mesh_node.proofs.Stepping.{going_more, over_by, same_arm, same_called, same_node, same_programmed, same_saved}
 use Rattle.mesh_node.proofs.Telling.{closed_by, drop_front, going_taken, over_taken, phase_short, taken_of, told_more}
+use Rattle.mesh_node.proofs.Unfilled.{unfilled_by, unfilled_taken}
 
 -- a phase, the seats before and behind it, and what was taken of the node
 pub record IsPhase {F M Reader Reading : Type 0} (role : Role) (image : List ℕ → Type 0) (chip : F → Chip) (old new left : NodeView F) (e : DrawerView) (events : List (List Event)) (before now : Seats M Reader Reading) (dones : List Done) (log : PhaseLog) (closed : Bool) : Type 0 where
@@ -110,13 +115,23 @@ module _ {F M Reader Reading : Type 0} {role : Role} {image : List ℕ → Type 
         no_fault = k.no_fault;
         later = k.later;
         asked = k.asked;
+        taken = omega arith;
       })
+
+  -- each entry has a move behind it
+  moved_is : length new.machine.moves ≡ length new.machine.entries
+  moved_is = moves_long role image (found_of (chip new.start)) (chip new.flash) p.known.over new.machine p.known.life
 
   came : CameTo old new
   came = came_to old new p.between.live p.was.front
 
   same_taken : new.machine.taken ≡ old.machine.taken
   same_taken = ap (λ o. o.taken) p.origin
+
+  pub unfilled_is : old.machine.hand ≢ H.OfRefill → IsUnfilled old.machine left.machine
+  unfilled_is none =
+      let h = unfilled_by old.machine new.machine came.more came.is p.between.taken same_taken (ap (λ o. o.fills) p.origin) none in
+      subst (λ (n : NodeView F). IsUnfilled old.machine n.machine) (sym p.taken) (unfilled_taken old.machine new.machine (length new.machine.entries) h)
 
   came_are : log.entries.items ≡ came.more
   came_are =
@@ -172,7 +187,7 @@ module _ {F M Reader Reading : Type 0} {role : Role} {image : List ℕ → Type 
   module _ (phases : List (List (List Event))) (sends : List (List Sent)) (h : IsGoing phases old before.drawer sends before.counts.items) where
     pub room_is : IsPrintablePhase (did_of log)
     room_is =
-        let pairs = pairs_more old new before.drawer e events before.counts.items dones sends h.pairs p.was p.memory h.live h.many in
+        let pairs = pairs_more old new before.drawer e events before.counts.items dones sends h.pairs p.was p.memory h.live h.many moved_is in
         record {
           entries = omega (arith, p.first, p.between.count, long_is, p.known.life.few);
           bearers = subst (λ n. n ≤ BEARERS) (sym (ap length p.sends ∙ lines_many)) p.between.few;
@@ -181,7 +196,7 @@ module _ {F M Reader Reading : Type 0} {role : Role} {image : List ℕ → Type 
 
     pub going_is : closed ≡ false → IsGoing (phases ++ events ∷ []) left now.drawer (both_of sends (map (λ v. v.items) log.sends.items)) now.counts.items
     going_is off =
-        let more = going_more phases old new before.drawer e events before.counts.items dones sends h p.was p.memory p.long (p.through off) in
+        let more = going_more phases old new before.drawer e events before.counts.items dones sends h p.was p.memory p.long moved_is (p.through off) in
         let lined = subst (λ ls. IsGoing (phases ++ events ∷ []) new e (both_of sends ls) (map (λ x. x.number) dones)) (sym p.sends) more in
         let all = subst (λ cs. IsGoing (phases ++ events ∷ []) new e (both_of sends (map (λ v. v.items) log.sends.items)) cs) (sym p.counts) lined in
         let here = subst (λ d. IsGoing (phases ++ events ∷ []) new d (both_of sends (map (λ v. v.items) log.sends.items)) now.counts.items) (sym p.drawer) all in
@@ -190,7 +205,7 @@ module _ {F M Reader Reading : Type 0} {role : Role} {image : List ℕ → Type 
 
     pub over_is : closed ≡ true → (rest : List (List (List Event))) → IsOver (phases ++ events ∷ rest) left now.drawer (both_of sends (map (λ v. v.items) log.sends.items))
     over_is on rest =
-        let over = over_by phases old new before.drawer e events before.counts.items dones sends h p.was p.memory p.long (p.halted on) rest in
+        let over = over_by phases old new before.drawer e events before.counts.items dones sends h p.was p.memory p.long moved_is (p.halted on) rest in
         let lined = subst (λ ls. IsOver (phases ++ events ∷ rest) new e (both_of sends ls)) (sym p.sends) over in
         let here = subst (λ d. IsOver (phases ++ events ∷ rest) new d (both_of sends (map (λ v. v.items) log.sends.items))) (sym p.drawer) lined in
         subst (λ n. IsOver (phases ++ events ∷ rest) n now.drawer (both_of sends (map (λ v. v.items) log.sends.items))) (sym p.taken)

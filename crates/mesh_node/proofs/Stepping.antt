@@ -29,7 +29,8 @@ length_both (x ∷ xs) [] e = refl
 length_both (x ∷ xs) (y ∷ ys) e = ap suc (length_both xs ys (omega (arith, e)))
 
 module _ {F : Type 0} (phases : List (List (List Event))) (old new : NodeView F) (d e : DrawerView) (events : List (List Event)) (counts : List ℕ) (dones : List Done) (sends : List (List Sent))
-    (h : IsGoing phases old d sends counts) (w : WasPhase old new d e events counts dones) (memory : HadMemory dones) (few : length events ≡ length counts) where
+    (h : IsGoing phases old d sends counts) (w : WasPhase old new d e events counts dones) (memory : HadMemory dones) (few : length events ≡ length counts)
+    (moved : length new.machine.moves ≡ length new.machine.entries) where
   at_most : length events ≤ length counts
   at_most = omega (arith, few)
 
@@ -39,7 +40,7 @@ module _ {F : Type 0} (phases : List (List (List Event))) (old new : NodeView F)
   pub going_more : AreThrough dones → IsGoing (phases ++ events ∷ []) new e (both_of sends (map lines_of dones)) (map (λ x. x.number) dones)
   going_more through = record {
     done = done_more phases old new d e events counts dones sends h.done w memory at_most h.live through;
-    pairs = pairs_more old new d e events counts dones sends h.pairs w memory h.live h.many;
+    pairs = pairs_more old new d e events counts dones sends h.pairs w memory h.live h.many moved;
     handled = handled_more old new d e events counts dones w memory at_most h.live phases h.handled through;
     live = none_stopped old new d e events counts dones w h.live through;
     many = length_both sends (map lines_of dones) (omega (arith, h.many, dones_long, length-map dones lines_of)) ∙ omega (arith, h.many, dones_long, length-map dones (λ (x : Done). x.number));
@@ -52,7 +53,7 @@ module _ {F : Type 0} (phases : List (List (List Event))) (old new : NodeView F)
         ordered = λ is_cut cut. subst (λ b. AreOrdered b (phases ++ events ∷ rest) new.machine.entries (both_of sends (map lines_of dones))) (sym (cut some))
             (broken_off phases old new d e events counts dones sends h.done w memory at_most h.live rest);
         numbers = λ k. (numbered_more phases old new d e events counts dones sends h.done w memory at_most h.live k).numbers;
-        pairs = pairs_more old new d e events counts dones sends h.pairs w memory h.live h.many;
+        pairs = pairs_more old new d e events counts dones sends h.pairs w memory h.live h.many moved;
         next = λ more event hand out. next_in old new d e events counts dones w memory at_most h.live phases h.handled more event hand out rest;
         hand = λ more event hand out. in_hand old new d e events counts dones w memory at_most h.live phases sends h.done more event hand out rest;
       }

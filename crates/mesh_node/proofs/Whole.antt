@@ -5,6 +5,7 @@ use Rattle.flash_model.specs.Chip.{Chip}
 use Rattle.mesh_types.specs.declared.history.Entry.{Entry}
 use Rattle.mesh_types.specs.declared.report.End.{End}
 use Rattle.record_types.specs.declared.records.StoreRecord.{StoreRecord}
+use Rattle.report_definitions.specs.Record.{list_at}
 use Rattle.event_definitions.specs.Role.{Role}
 use Rattle.run_definitions.specs.Order.{Step, is_cut, phase, phases_of}
 use Rattle.seq_word.specs.Rule.{IsEndOf, IsWithin, times}
@@ -20,7 +21,7 @@ use Rattle.machine_contract.specs.Standing.{IsLifeSoFar}
 use Rattle.machine_contract.specs.View.{MachineView}
 use Rattle.mesh_node.specs.Given.{Stood}
 use Rattle.life_laws.specs.Hands.{HoldsNext}
-use Rattle.life_laws.specs.Pairs.{IsFromMove, PairsSo}
+use Rattle.life_laws.specs.Pairs.{IsFromMove, IsUntilMove, PairsSo}
 use Rattle.life_laws.proofs.Pairing.{from_all}
 use Rattle.mesh_node.specs.Going.{IsOver}
 use Rattle.mesh_node.specs.Lived.{IsLifeTold, LivedOn, WentOn, life_told}
@@ -102,6 +103,7 @@ module _ {M F S T : Type 0} (view : M → MachineView) (stands : FlashFound → 
         (moved h.over (subst (λ o. IsRecovered (chip start).now o) begun_is read) runs);
     from = subst (λ (l : List Entry). All (All (IsFromMove l node.machine.moves)) (sends_told bearers went.did)) went.told.entries_are
         (from_all node.machine.entries node.machine.moves (sends_told bearers went.did) went.over.pairs.drawns d.looks went.over.pairs.shown);
+    until = subst (λ (l : List Entry). (k : ℕ) → All (IsUntilMove k l node.machine.moves) (list_at (sends_told bearers went.did) k)) went.told.entries_are went.over.pairs.until;
     hand = subst (λ (l : List Entry). HoldsNext went.phases l (sends_told bearers went.did) node.machine) went.told.entries_are (holds_next role image chip went.phases node d (sends_told bearers went.did) h went.over);
   }
 

@@ -1,8 +1,10 @@
 -- Where in its plan a life was given an order to tear a call, and the machine that it leaves.
-use Rattle.std.specs.Prelude.{◌≡◌, ◌≢◌, ◌⊎◌, List, [], ◌∷◌, ◌++◌, Option, IfSome}
+use Rattle.std.specs.Prelude.{◌≡◌, ◌≢◌, ◌⊎◌, ℕ, List, [], ◌∷◌, ◌++◌, Option, IfSome}
 use Rattle.flash_model.specs.Chip.{Arm, Chip}
 use Rattle.life_laws.specs.Hands.{AreHandledAll}
+use Rattle.machine_contract.specs.declared.answers.Hand.TheVariants as H
 use Rattle.machine_contract.specs.View.{MachineView}
+use Rattle.mesh_types.specs.declared.history.Entry.{Entry}
 use Rattle.record_types.specs.declared.records.StoreRecord.{StoreRecord}
 use Rattle.report_definitions.specs.Record.{Life}
 use Rattle.run_definitions.specs.Order.{Step, arm, is_cut, phases_of}
@@ -18,12 +20,24 @@ abbrev pub Stood : {M F : Type 0} → (M → MachineView) → (Chip → List Sto
     → List StoreRecord → MachineView → Type 0
 Stood {M} view stands chip flash over shown = (machine : M) × (view machine ≡ shown) × stands (chip flash) over machine
 
+-- behind so many refills comes the first of these entries, or, where there is none, no refill more, and none is in hand
+abbrev pub NoneMore : ℕ → List Entry → MachineView → Type 0
+NoneMore fills [] now = (now.fills ≡ fills) × (now.hand ≢ H.OfRefill)
+NoneMore fills (e ∷ more) now = e.fills ≡ fills
+
+-- From the one machine to the other, which has these entries more, no refill was stored before the first of them, and none was in hand.
+pub record IsUnfilled (old new : MachineView) : Type 0 where
+  pub more : List Entry
+  pub entries : new.entries ≡ old.entries ++ more
+  pub none : NoneMore old.fills more new
+
 -- `stands` is of one life: what it found is given
 module _ {M F : Type 0} (view : M → MachineView) (stands : Chip → List StoreRecord → M → Type 0) (chip : F → Chip)
     (over : List StoreRecord) where
   -- The order was given where a machine stood over the flash that had handled all events of the phases before it in the plan, and none of
-  -- those behind it.
-  pub record WasBetween (plan : List Step) (order : Arm) : Type 0 where
+  -- those behind it. Since then, up to this machine, no refill was stored before the next entry: so those that lines of before had asked for were
+  -- stored before the order.
+  pub record WasBetween (now : MachineView) (plan : List Step) (order : Arm) : Type 0 where
     pub before : List Step
     pub behind : List Step
     pub is : plan ≡ before ++ arm order.calls order.mask ∷ behind
@@ -32,14 +46,15 @@ module _ {M F : Type 0} (view : M → MachineView) (stands : Chip → List Store
     pub stood : stands (chip flash) over machine
     pub handled : AreHandledAll (phases_of before) (view machine).entries
     pub changes : order.changes ≡ (chip flash).changes
+    pub unfilled : IsUnfilled (view machine) now
 
   -- first of all, or behind a phase
-  abbrev pub WasGiven : List Step → Arm → Type 0
-  WasGiven plan order = WasFirst plan order ⊎ ((placed : WasBetween plan order) × (placed.before ≢ []))
+  abbrev pub WasGiven : MachineView → List Step → Arm → Type 0
+  WasGiven now plan order = WasFirst plan order ⊎ ((placed : WasBetween now plan order) × (placed.before ≢ []))
 
   -- the order that the flash had before, or one that was given between two phases of the plan
-  abbrev pub IsSameOrPlaced : List Step → Option Arm → Option Arm → Type 0
-  IsSameOrPlaced plan old new = (new ≡ old) ⊎ IfSome new (WasBetween plan)
+  abbrev pub IsSameOrPlaced : MachineView → List Step → Option Arm → Option Arm → Type 0
+  IsSameOrPlaced now plan old new = (new ≡ old) ⊎ IfSome new (WasBetween now plan)
 
   -- The machine that stands over the flash at the end: what the life tells is all that it handled, and the life is cut exactly where it is
   -- closed.

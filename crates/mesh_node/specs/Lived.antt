@@ -9,7 +9,7 @@ use Rattle.machine_contract.specs.Moved.{HasMoved}
 use Rattle.machine_contract.specs.Opening.{EachRecovered, IsNodeFlash, found_of}
 use Rattle.machine_contract.specs.Standing.{IsLifeSoFar}
 use Rattle.record_types.specs.declared.records.StoreRecord.{StoreRecord}
-use Rattle.report_definitions.specs.Record.{Life}
+use Rattle.report_definitions.specs.Record.{Life, list_at}
 use Rattle.event_definitions.specs.Handling.{AreHandled}
 use Rattle.event_definitions.specs.History.{Told}
 use Rattle.event_definitions.specs.Role.{Role}
@@ -19,7 +19,7 @@ use Rattle.seq_word.specs.Seen.{ClosedView, DrawerView}
 use Rattle.store_definitions.specs.Config.{config_of}
 use Rattle.store_definitions.specs.Recovered.{IsRecovered}
 use Rattle.life_laws.specs.Hands.{HoldsNext}
-use Rattle.life_laws.specs.Pairs.{IsFromMove}
+use Rattle.life_laws.specs.Pairs.{IsFromMove, IsUntilMove}
 use Rattle.locked_node.specs.Node.{NodeView}
 use Rattle.locked_node.specs.Stands.{IsLater}
 use Rattle.machine_contract.specs.View.{MachineView}
@@ -122,6 +122,8 @@ module _ {S T : Type 0} (Stood : List StoreRecord → MachineView → Type 0) (r
     pub moved : closed ≡ false → HasMoved role over (entries_told did) refills drawn.advances
     -- no line draws a word, or tells the end of an IV Index, below where the counter had been moved to behind its entry (`moves` of `paid`)
     pub from : All (All (IsFromMove (entries_told did) all.machine.moves)) (sends_told bearers did)
+    -- nor does one draw a word at or above where it was moved to with a later event from outside of its bearer
+    pub until : (k : ℕ) → All (IsUntilMove k (entries_told did) all.machine.moves) (list_at (sends_told bearers did) k)
     -- an event from outside that its machine has in hand comes behind all lines of its bearer's events before
     pub hand : HoldsNext phases (entries_told did) (sends_told bearers did) all.machine
 

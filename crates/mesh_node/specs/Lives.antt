@@ -9,7 +9,7 @@ use Rattle.mesh_types.specs.declared.history.Sent.{Sent}
 use Rattle.mesh_types.specs.declared.report.End.{End}
 use Rattle.mesh_types.specs.declared.report.End.TheVariants as F
 use Rattle.mesh_types.specs.declared.report.Opened.TheVariants as W
-use Rattle.report_definitions.specs.Record.{Life}
+use Rattle.report_definitions.specs.Record.{Life, list_at}
 use Rattle.record_types.specs.declared.records.StoreRecord.{StoreRecord}
 use Rattle.event_definitions.specs.Role.{Role}
 use Rattle.run_definitions.specs.Order.{Step, is_cut, phases_of}
@@ -23,9 +23,9 @@ use Rattle.life_laws.specs.declared.plan.LifeLog.{LifeLog}
 use Rattle.life_laws.specs.declared.plan.LifePlan.{LifePlan}
 use Rattle.machine_contract.specs.View.{MachineView}
 use Rattle.mesh_node.specs.Drawn.{TellsDrawn}
-use Rattle.mesh_node.specs.Given.{IsTold, WasGiven}
+use Rattle.mesh_node.specs.Given.{IsTold, WasFirst, WasGiven}
 use Rattle.life_laws.specs.Hands.{HoldsNext}
-use Rattle.life_laws.specs.Pairs.{IsFromMove}
+use Rattle.life_laws.specs.Pairs.{IsFromMove, IsUntilMove}
 use Rattle.life_laws.specs.Plan.{HasOneArm, IsStep, life_of}
 use Rattle.mesh_node.specs.Steps.{IsGiven, IsOfPlan}
 use Rattle.node_limits.specs.declared.TheConstants.{BANK_SECTORS, BEARERS, COMPACTION_CALLS}
@@ -96,8 +96,8 @@ pub record Lives {M F : Type 0} (view : M → MachineView) (stands : FlashFound 
       → IfSome log.drawn (λ words. HasMoved role over log.history.entries.items log.history.refills words.advances)
   -- over a flash that fails by an order alone, one that the plan has was given, but where there was a Node Reset
   pub armed : IsTrue old.steady → log.opened ≢ W.WasReset → IsGiven plan (chip new).setting.arm
-  -- and it was given at its place in the plan
-  pub given : IfSome (chip new).setting.arm (WasGiven view (stands (found_at old.faults image)) chip over plan)
+  -- where the life wasn't run, it was given first of all
+  pub first : is_on log.opened ≡ false → IfSome (chip new).setting.arm (WasFirst plan)
   -- and carried out: of a life that wasn't cut at most the calls that come before the torn one were begun since
   pub carried : IsTrue old.steady → is_cut log.end ≡ false → IsWithin (chip new).setting.arm 0 (chip new).changes
   -- and of one that was cut the torn call is the last that was begun
@@ -106,12 +106,19 @@ pub record Lives {M F : Type 0} (view : M → MachineView) (stands : FlashFound 
   pub reads : (chip new).reads ≤ MOUNT_READS
   -- what is told of the life is all that its machine handled
   pub told : is_on log.opened ≡ true → IsTold view (stands (found_at old.faults image)) chip over (life_of log) new
+  -- and an order was given at its place in the plan
+  pub given : (on : is_on log.opened ≡ true)
+      → IfSome (chip new).setting.arm
+      (WasGiven view (stands (found_at old.faults image)) chip over (view (told on).machine) plan)
   -- and the flash had at most the program and erase calls that the records cost which were stored or in hand, and a migration
   pub paid : (on : is_on log.opened ≡ true)
       → IsLifeSoFar role IsNodeImage (found_at old.faults image) (chip new) over (view (told on).machine)
   -- no line draws a word, or tells the end of an IV Index, below where the counter had been moved to behind its entry
   pub from : (on : is_on log.opened ≡ true)
       → All (All (IsFromMove (life_of log).entries (view (told on).machine).moves)) (life_of log).sends
+  -- nor does one draw a word at or above where it was moved to with a later event from outside of its bearer
+  pub until : (on : is_on log.opened ≡ true) → (k : ℕ)
+      → All (IsUntilMove k (life_of log).entries (view (told on).machine).moves) (list_at (life_of log).sends k)
   -- an event from outside that its machine has in hand comes behind all lines of its bearer's events before
   pub hand : (on : is_on log.opened ≡ true)
       → HoldsNext (phases_of plan) (life_of log).entries (life_of log).sends (view (told on).machine)

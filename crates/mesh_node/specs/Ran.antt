@@ -5,6 +5,7 @@ use Rattle.machine_contract.specs.Moved.{HasMoved}
 use Rattle.machine_contract.specs.Opening.{EachRecovered, FlashFound, IsNodeFlash, found_of}
 use Rattle.machine_contract.specs.Standing.{IsLifeSoFar}
 use Rattle.record_types.specs.declared.records.StoreRecord.{StoreRecord}
+use Rattle.report_definitions.specs.Record.{list_at}
 use Rattle.event_definitions.specs.Role.{Role}
 use Rattle.run_definitions.specs.Order.{Step, is_cut, phases_of}
 use Rattle.run_definitions.specs.RunOf.{LifeOf, is_on}
@@ -16,7 +17,7 @@ use Rattle.machine_contract.specs.View.{MachineView}
 use Rattle.mesh_node.specs.Drawn.{TellsDrawn}
 use Rattle.mesh_node.specs.Given.{IsTold, WasGiven}
 use Rattle.life_laws.specs.Hands.{HoldsNext}
-use Rattle.life_laws.specs.Pairs.{IsFromMove}
+use Rattle.life_laws.specs.Pairs.{IsFromMove, IsUntilMove}
 use Rattle.life_laws.specs.Plan.{life_of}
 use Rattle.mesh_node.specs.Steps.{HasGiven, IsOfPlan}
 
@@ -37,9 +38,10 @@ pub record Ran {M F : Type 0} (view : M → MachineView) (stands : FlashFound �
   pub moved : is_cut log.end ≡ false
       → IfSome log.drawn (λ words. HasMoved role over log.history.entries.items log.history.refills words.advances)
   pub armed : IsTrue (chip new).steady → HasGiven plan (chip new).setting.arm
-  pub given : IfSome (chip new).setting.arm (WasGiven view (stands (found_of start)) chip over plan)
   pub told : IsTold view (stands (found_of start)) chip over (life_of log) new
+  pub given : IfSome (chip new).setting.arm (WasGiven view (stands (found_of start)) chip over (view told.machine) plan)
   pub paid : IsLifeSoFar role IsNodeImage (found_of start) (chip new) over (view told.machine)
   pub from : All (All (IsFromMove (life_of log).entries (view told.machine).moves)) (life_of log).sends
+  pub until : (k : ℕ) → All (IsUntilMove k (life_of log).entries (view told.machine).moves) (list_at (life_of log).sends k)
   pub hand : HoldsNext (phases_of plan) (life_of log).entries (life_of log).sends (view told.machine)
   pub on : is_on log.opened ≡ true

@@ -1,18 +1,19 @@
 //! A life that goes on: phase by phase, as they come. What a phase left is told at once, and nothing of it is kept.
 #![tactic(auto)]
 
-ghost use Rattle.std.specs.Prelude.{◌≡◌, ◌<◌, ◌≤◌, List, [], ◌∷◌, ◌++◌, length, map, replicate, All, true, false, IfOk, OnOk, OnErr};
+ghost use Rattle.std.specs.Prelude.{◌≡◌, ◌≢◌, ◌<◌, ◌≤◌, List, [], ◌∷◌, ◌++◌, length, map, replicate, All, true, false, IfOk, OnOk, OnErr};
 ghost use Rattle.flash_model.specs.Chip.{Keeps};
 ghost use Rattle.mesh_types.specs.declared.events.Event.{Event};
 ghost use Rattle.mesh_types.specs.declared.history.Entry.{Entry};
 ghost use Rattle.mesh_types.specs.declared.history.Sent.{Sent};
+ghost use Rattle.machine_contract.specs.declared.answers.Hand.TheVariants as Hands;
 ghost use Rattle.machine_contract.specs.Opening.{found_of};
 ghost use Rattle.machine_contract.specs.Started.{IsStarted};
 ghost use Rattle.locked_node.specs.Stands.{IsNode};
 ghost use Rattle.node_bearer.specs.Did.{AreEvents};
 ghost use Rattle.life_laws.specs.Phases.{both_of};
 ghost use Rattle.mesh_node.specs.Due.{IsDueSince};
-ghost use Rattle.mesh_node.specs.Given.{Stood};
+ghost use Rattle.mesh_node.specs.Given.{IsUnfilled, Stood};
 ghost use Rattle.mesh_node.specs.Going.{AreTold, IsBetween, IsGoing, IsOver};
 ghost use Rattle.mesh_node.specs.Lived.{FellShort, LivedOn, WentOn};
 ghost use Rattle.mesh_node.specs.Steps.{IsSameNode};
@@ -37,7 +38,7 @@ use store_definitions::recovery::one_list_is_recovered;
 /// kept there. For want of memory the node is dropped with its flash.
 ///
 /// What is told is what was done in this phase (`part`). `going` and `over` carry on what holds of the phases before: of a life that goes on, and
-/// of one that is over since the flash failed.
+/// of one that is over since the flash failed. No refill is stored before the phase's first entry (`unfilled`).
 pub fn one_phase<M: Machine, F: Flash + Send + Drop, G: Gate, R: Threads + Wait + Sync>(
     rt: &R,
     alloc: Global,
@@ -62,6 +63,8 @@ pub fn one_phase<M: Machine, F: Flash + Send + Drop, G: Gate, R: Threads + Wait 
     ensures stopped { IfOk result (λ r. r.closed ≡ true → 0 < r.node.stops) }
     ensures known { IfOk result (λ r. IsNode M.role M.image F.chip r.node) }
     ensures between { IfOk result (λ r. r.closed ≡ false → IsBetween seats.new r.node) }
+    ensures unfilled { node.machine.hand ≢ Hands.OfRefill
+        → IfOk result (λ r. IsUnfilled node.machine r.node.machine) }
     ensures place { IfOk result (λ r. r.log.first ≡ seats.old.entries) }
     ensures part { IfOk result (λ r. IsPartDone r.closed (map (λ v. v.items) lists.now) (did_of r.log)) }
     ensures told { (entries : List Entry) → AreTold entries node

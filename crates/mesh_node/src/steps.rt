@@ -6,9 +6,10 @@ ghost use Rattle.mesh_types.specs.declared.events.Event.{Event};
 ghost use Rattle.record_types.specs.declared.records.StoreRecord.{StoreRecord};
 ghost use Rattle.run_definitions.specs.Order.{phases_of};
 ghost use Rattle.store_definitions.specs.Recovered.{IsRecovered};
+ghost use Rattle.machine_contract.specs.declared.answers.Hand.TheVariants as Hands;
 ghost use Rattle.machine_contract.specs.Opening.{found_of};
 ghost use Rattle.node_bearer.specs.Did.{AreEvents};
-ghost use Rattle.mesh_node.specs.Given.{IsSameOrPlaced};
+ghost use Rattle.mesh_node.specs.Given.{IsSameOrPlaced, IsUnfilled};
 ghost use Rattle.mesh_node.specs.Going.{AreTold, IsBetween, IsGoing, IsOver};
 ghost use Rattle.life_laws.specs.Plan.{IsStep, behind_arm, step_of, steps_of};
 ghost use Rattle.mesh_node.specs.Steps.{HasGiven, IsArmedBy, IsArmedFirst, IsSameNode, IsSameOrOf, MayArm, MayFollow};
@@ -60,6 +61,7 @@ fn do_phase<M: Machine, F: Bench, G: Gate, R: Threads + Wait + Sync>(
     ensures parts { OnOk result (seats.new.drawer.parts ≡ 1024) }
     ensures free { OnOk result (seats.new.drawer.owes ≡ 0) }
     ensures frame { IfOk result (λ r. IsSameNode node r.0) }
+    ensures unfilled { node.machine.hand ≢ Hands.OfRefill → IfOk result (λ r. IsUnfilled node.machine r.0.machine) }
     ensures arm { IfOk result (λ r. (F.chip r.0.flash).setting.arm ≡ (F.chip node.flash).setting.arm) }
     ensures saved { IfOk result (λ r. (F.chip r.0.flash).setting.saved ≡ (F.chip node.flash).setting.saved) }
     ensures many { OnOk result
@@ -104,6 +106,7 @@ pub fn do_step<M: Machine, F: Bench, G: Gate, R: Threads + Wait + Sync>(
     ensures parts { OnOk result (seats.new.drawer.parts ≡ 1024) }
     ensures free { OnOk result (seats.new.drawer.owes ≡ 0) }
     ensures frame { IfOk result (λ r. IsSameNode node r.0) }
+    ensures unfilled { node.machine.hand ≢ Hands.OfRefill → IfOk result (λ r. IsUnfilled node.machine r.0.machine) }
     ensures arm { IfOk result (λ r. IsArmedBy step.now (F.chip node.flash) (F.chip r.0.flash)) }
     ensures saved { IfOk result (λ r. (F.chip r.0.flash).setting.saved ≡ (F.chip node.flash).setting.saved) }
     ensures many { OnOk result
@@ -162,8 +165,8 @@ pub fn do_steps<M: Machine, F: Bench, G: Gate, R: Threads + Wait + Sync>(
     ensures given { IfOk result (λ r. r.0.stops ≡ 0 → HasGiven (steps_of steps.now) (F.chip r.0.flash).setting.arm) }
     ensures placed { (over : List StoreRecord) → IsRecovered (F.chip node.start).now over
         → IfOk result
-        (λ r. IsSameOrPlaced M.view (M.stands (found_of (F.chip node.start))) F.chip over (steps_of steps.now) (F.chip node.flash).setting.arm
-        (F.chip r.0.flash).setting.arm) }
+        (λ r. IsSameOrPlaced M.view (M.stands (found_of (F.chip node.start))) F.chip over r.0.machine (steps_of steps.now)
+        (F.chip node.flash).setting.arm (F.chip r.0.flash).setting.arm) }
     ensures many { IfOk result (λ r. length r.1.sends.items ≡ bearers) }
     ensures told { IfOk result (λ r. AreTold r.1.entries.items r.0) }
     ensures over { IfOk result

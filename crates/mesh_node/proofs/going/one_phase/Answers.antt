@@ -3,7 +3,7 @@ use Rattle.std.proofs.lemmas.List.{length-map}
 use Rattle.node_phase.specs.Part.{AreThrough, HadMemory}
 use Rattle.node_phase.specs.Worked.{WasPhase}
 use Rattle.life_laws.specs.Stopped.{HasStopped}
-use Rattle.mesh_node.proofs.Phasing.{IsPhase, arm_is, bearers_is, between_is, closed_is, frame_is, free_is, going_is, known_is, many_is, over_is, part_done, parts_is, room_is, saved_is, stopped_is, told_is}
+use Rattle.mesh_node.proofs.Phasing.{IsPhase, arm_is, bearers_is, between_is, closed_is, frame_is, free_is, going_is, known_is, many_is, over_is, part_done, parts_is, room_is, saved_is, stopped_is, told_is, unfilled_is}
 use Rattle.mesh_node.proofs.going.one_phase.Goals as goal
 
 pub returns : goal.returns
@@ -49,6 +49,7 @@ returns g c =
       stopped = stopped_is p;
       known = known_is p;
       between = between_is p;
+      unfilled = unfilled_is p;
       place = p.first;
       part = part_done p;
       told = told_is p;

@@ -6,7 +6,9 @@ use Rattle.run_definitions.specs.Order.{phases_of}
 use Rattle.mesh_node.specs.Going.{AreTold, IsBetween, IsGoing, IsOver}
 use Rattle.life_laws.specs.Plan.{IsStep, step_of}
 use Rattle.mesh_node.specs.Steps.{IsArmedBy}
+use Rattle.mesh_node.specs.Given.{IsUnfilled}
 use Rattle.mesh_node.proofs.Stepping.{going_with, other_flash, told_with, between_with}
+use Rattle.mesh_node.proofs.Unfilled.{unfilled_same}
 use Rattle.mesh_node.proofs.steps.do_step.Goals as goal
 
 pub do_phase-requires-clause-lists : goal.do_phase-requires-clause-lists
@@ -33,6 +35,13 @@ returns-in-Arm-clause-going g c = λ phases h off.
 
 pub returns-in-Arm-clause-over : goal.returns-in-Arm-clause-over
 returns-in-Arm-clause-over g c = λ phases rest h on. absurd (true≢false (sym on))
+
+pub returns-in-Arm-clause-unfilled : goal.returns-in-Arm-clause-unfilled
+returns-in-Arm-clause-unfilled g c = λ none.
+    subst (λ n. IsUnfilled c.args.node.machine n.machine) (sym c.arm.ensures.frame) (unfilled_same c.args.node.machine none)
+
+pub returns-in-Phase-clause-unfilled : goal.returns-in-Phase-clause-unfilled
+returns-in-Phase-clause-unfilled g c = c.do_phase.ensures.unfilled
 
 pub returns-in-Phase-clause-frame : goal.returns-in-Phase-clause-frame
 returns-in-Phase-clause-frame g c = c.do_phase.ensures.frame

@@ -9,6 +9,7 @@ use Rattle.mesh_node.specs.Steps.{HasGiven, MayFollow}
 use Rattle.mesh_node.proofs.Following.{among_steps, dropped, going_first, may_arm, may_more, order_more, over_whole, phases_around, phases_taken, same_more, taken}
 use Rattle.mesh_node.proofs.Giving.{given_more, given_none, held_more}
 use Rattle.mesh_node.proofs.Placed.{placed_held}
+use Rattle.mesh_node.proofs.Unfilled.{none_in_hand}
 use Rattle.mesh_node.proofs.steps.do_steps.Goals as goal
 
 pub loop-step-init : goal.loop-step-init
@@ -80,7 +81,8 @@ loop-step-preserved g c =
       held = λ some. held_more x old new did.arm (inv.held some);
       given = subst (λ ss. HasGiven (steps_of ss) new.setting.arm) (sym (taken steps i x lt is)) (given_more (take i steps) x old new did.arm inv.given);
       placed = λ over read.
-          placed_held g.M.Machine.view g.M.Machine.stands g.F.Flash.chip over steps i x lt is l.node c.known.ensures.stands inv.going.handled c.one_list_is_recovered.ensures.one_list c.args.node.start inv.same.start read first new (inv.placed over read) did.arm;
+          placed_held g.M.Machine.view g.M.Machine.stands g.F.Flash.chip over steps i x lt is l.node c.known.ensures.stands inv.going.handled c.one_list_is_recovered.ensures.one_list c.args.node.start inv.same.start read first new (inv.placed over read) did.arm next.machine
+          (did.unfilled (none_in_hand l.node c.known.ensures.known inv.between.live));
       may = may_more x (drop (i + 1) steps) old new (subst (λ ss. MayFollow ss old.setting.arm) (dropped steps i x lt is) inv.may) did.arm;
     }
 
@@ -101,6 +103,7 @@ returns-then-closed-clause-placed g c = λ over read.
     let chip = g.F.Flash.chip in
     placed_held g.M.Machine.view g.M.Machine.stands chip over c.args.steps.now l.step-index c.step-item.result c.loop-step-test.true c.step-item.is l.node c.known.ensures.stands l.invariant.going.handled
     c.one_list_is_recovered.ensures.one_list c.args.node.start l.invariant.same.start read (chip c.args.node.flash).setting.arm (chip c.in_ok-next.next.flash) (l.invariant.placed over read) c.in_ok-next.ensures.arm
+    c.in_ok-next.next.machine (c.in_ok-next.ensures.unfilled (none_in_hand l.node c.known.ensures.known l.invariant.between.live))
 
 pub returns-clause-parts : goal.returns-clause-parts
 returns-clause-parts g c = c.loop-step.invariant.between.parts
