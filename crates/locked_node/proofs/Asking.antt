@@ -11,9 +11,13 @@ use Rattle.run_definitions.specs.Lines.{is_drawing}
 use Rattle.machine_contract.specs.declared.answers.Hand.{Hand}
 use Rattle.machine_contract.specs.Opening.{FlashFound, found_of}
 use Rattle.machine_contract.specs.View.{MachineView}
+use Rattle.seq_word.specs.Seen.{WatcherView}
+use Rattle.store_definitions.specs.Config.{config_of}
+use Rattle.locked_node.specs.declared.marks.Behind.{Behind}
 use Rattle.locked_node.specs.declared.marks.Mark.TheVariants as M
 use Rattle.locked_node.specs.Asked.{AreAsked, DrawsNone, WasAsked}
-use Rattle.locked_node.specs.Node.{handled_marks, marks_of}
+use Rattle.locked_node.specs.Counted.{IsCounted}
+use Rattle.locked_node.specs.Node.{handled_marks, marks_of, rest_words}
 use Rattle.locked_node.specs.Stands.{Holds}
 
 -- an entry more has the refills before it, and none is behind it yet
@@ -30,30 +34,29 @@ draws_here (x ∷ jobs) zero job is draws h =
 draws_here (x ∷ jobs) (suc j) job is draws h = draws_here jobs j job is draws (All-tail (λ x. is_drawing x ≡ false) x jobs h)
 
 -- so behind such a job any number of refills may be stored
-asked_behind : (es : List Entry) (moves : List ℕ) (at : ℕ) (e : Entry) (move : ℕ) → slice_get (handled_marks es moves ++ []) at ≡ Some (M.Handled e move) → (DrawsNone e → true ≡ false)
-    → (m n : ℕ) → AreAsked es m → AreAsked es n
-asked_behind [] moves at e move is draws m n h = cc
-asked_behind (x ∷ es) [] zero e move is draws m n h =
+asked_behind : (es : List Entry) (moves counters : List ℕ) (at : ℕ) (e : Entry) (behind : Behind) → slice_get (handled_marks es moves counters ++ []) at ≡ Some (M.Handled e behind)
+    → (DrawsNone e → true ≡ false) → (m n : ℕ) → AreAsked es m → AreAsked es n
+asked_behind [] moves counters at e behind is draws m n h = cc
+asked_behind (x ∷ es) moves counters zero e behind is draws m n h =
     let same : x ≡ e = cc in
     (h.0, λ none. absurd (true≢false (draws (subst DrawsNone same none))))
-asked_behind (x ∷ es) (y ∷ moves) zero e move is draws m n h =
-    let same : x ≡ e = cc in
-    (h.0, λ none. absurd (true≢false (draws (subst DrawsNone same none))))
-asked_behind (x ∷ es) [] (suc at) e move is draws m n h = (h.0, λ none. asked_behind es [] at e move is draws m n (h.1 none))
-asked_behind (x ∷ es) (y ∷ moves) (suc at) e move is draws m n h = (h.0, λ none. asked_behind es moves at e move is draws m n (h.1 none))
+asked_behind (x ∷ es) moves counters (suc at) e behind is draws m n h =
+    (h.0, λ none. asked_behind es (rest_words moves) (rest_words counters) at e behind is draws m n (h.1 none))
 
-pub asked_more : (before : ℕ) (es : List Entry) (moves : List ℕ) (stops : ℕ) (hand : Hand) → stops ≡ 0 → WasAsked before (marks_of es moves stops hand) → (m n : ℕ) → AreAsked es m → AreAsked es n
-asked_more before es moves stops hand none w m n h =
-    let here = subst (λ k. slice_get (marks_of es moves k hand) w.at ≡ Some (M.Handled w.entry w.move)) none w.here in
-    asked_behind es moves w.at w.entry w.move here (draws_here w.entry.jobs w.place w.job w.has w.draws) m n h
+pub asked_more : (before : ℕ) (es : List Entry) (moves counters : List ℕ) (stops : ℕ) (hand : Hand) → stops ≡ 0 → WasAsked before (marks_of es moves counters stops hand)
+    → (m n : ℕ) → AreAsked es m → AreAsked es n
+asked_more before es moves counters stops hand none w m n h =
+    let here = subst (λ k. slice_get (marks_of es moves counters k hand) w.at ≡ Some (M.Handled w.entry w.behind)) none w.here in
+    asked_behind es moves counters w.at w.entry w.behind here (draws_here w.entry.jobs w.place w.job w.has w.draws) m n h
 
 -- What holds of a node whose machine was called, and answered Ok.
-pub holds_on : {M F : Type 0} (stands : FlashFound → Chip → List StoreRecord → M → Type 0) (view : M → MachineView) (chip : F → Chip) (old new : M) (start flash after : F) (stops : ℕ)
-    → Holds stands view chip old start flash stops → (view old).closed ≡ false → (view new).closed ≡ (view old).closed
+pub holds_on : {M F : Type 0} (stands : FlashFound → Chip → List StoreRecord → M → Type 0) (view : M → MachineView) (chip : F → Chip) (old new : M) (watcher after_watcher : WatcherView) (start flash after : F) (stops : ℕ)
+    → (h : Holds stands view chip old watcher start flash stops) → (view old).closed ≡ false → (view new).closed ≡ (view old).closed
     → Keeps (chip flash) (chip after) → (chip after).faults ≡ (chip flash).faults
     → ((first : FlashFound) (over : List StoreRecord) → stands first (chip flash) over old → stands first (chip after) over new) → AreAsked (view new).entries (view new).fills → (view new).taken ≤ length (view new).entries
-    → Holds stands view chip new start after stops
-holds_on stands view chip old new start flash after stops h off same keeps faults kept asked taken = record {
+    → after_watcher.which ≡ (view new).which → IsCounted (config_of h.over).mark (view new) after_watcher.counters
+    → Holds stands view chip new after_watcher start after stops
+holds_on stands view chip old new watcher after_watcher start flash after stops h off same keeps faults kept asked taken watches counted = record {
   over = h.over;
   read = h.read;
   tie = kept (found_of (chip start)) h.over h.tie;
@@ -70,4 +73,6 @@ holds_on stands view chip old new start flash after stops h off same keeps fault
   };
   asked = asked;
   taken = taken;
+  watches = watches;
+  counted = counted;
 }

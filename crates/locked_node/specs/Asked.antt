@@ -3,6 +3,7 @@ use Rattle.std.specs.Prelude.{◌≡◌, ◌≤◌, ℕ, true, false, List, [], 
 use Rattle.mesh_types.specs.declared.history.Entry.{Entry}
 use Rattle.mesh_types.specs.declared.jobs.Job.{Job}
 use Rattle.run_definitions.specs.Lines.{is_drawing}
+use Rattle.locked_node.specs.declared.marks.Behind.{Behind}
 use Rattle.locked_node.specs.declared.marks.Mark.{Mark}
 use Rattle.locked_node.specs.declared.marks.Mark.TheVariants as M
 
@@ -20,8 +21,8 @@ pub record WasAsked (before : ℕ) (marks : List Mark) : Type 0 where
   pub at : ℕ
   pub since : before ≤ at
   pub entry : Entry
-  pub move : ℕ
-  pub here : slice_get marks at ≡ Some (M.Handled entry move)
+  pub behind : Behind
+  pub here : slice_get marks at ≡ Some (M.Handled entry behind)
   pub place : ℕ
   pub job : Job
   pub has : slice_get entry.jobs place ≡ Some job

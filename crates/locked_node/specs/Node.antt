@@ -10,14 +10,18 @@ use Rattle.machine_contract.specs.declared.answers.Hand.TheVariants as H
 use Rattle.machine_contract.specs.declared.answers.Stop.{Stop}
 use Rattle.machine_contract.specs.declared.answers.Stop.TheVariants as S
 use Rattle.machine_contract.specs.View.{MachineView}
+use Rattle.seq_word.specs.Seen.{last_word}
 use Rattle.locked_node.specs.declared.marks.Armed.{Armed}
+use Rattle.locked_node.specs.declared.marks.Behind.{Behind}
 use Rattle.locked_node.specs.declared.marks.Mark.{Mark}
 use Rattle.locked_node.specs.declared.marks.Mark.TheVariants as M
 use Rattle.locked_node.specs.declared.marks.Origin.{Origin}
 
--- the machine, the flash as the life found it, the flash now, and how many bearers have stopped
+-- the machine, the word that was found in the counter behind each of its entries, the flash as the life found it, the flash now, and how many bearers
+-- have stopped
 pub record NodeView (F : Type 0) : Type 0 where
   pub machine : MachineView
+  pub counters : List ℕ
   pub start : F
   pub flash : F
   pub stops : ℕ
@@ -37,17 +41,27 @@ abbrev pub stop_marks : ℕ → Option Event → List Mark
 stop_marks zero event = []
 stop_marks (suc n) event = M.Stopped event ∷ replicate n (M.Stopped None)
 
--- one mark for each entry, with the move behind it
-abbrev pub handled_marks : List Entry → List ℕ → List Mark
-handled_marks [] moves = []
-handled_marks (e ∷ entries) [] = M.Handled e 0 ∷ handled_marks entries []
-handled_marks (e ∷ entries) (move ∷ moves) = M.Handled e move ∷ handled_marks entries moves
+-- the first of these words, 0 where there is none, and those behind it
+abbrev pub first_word : List ℕ → ℕ
+first_word [] = 0
+first_word (word ∷ words) = word
 
-abbrev pub marks_of : List Entry → List ℕ → ℕ → Hand → List Mark
-marks_of entries moves stops hand = handled_marks entries moves ++ stop_marks stops (event_in hand)
+abbrev pub rest_words : List ℕ → List ℕ
+rest_words [] = []
+rest_words (word ∷ words) = words
+
+-- one mark for each entry, with the move behind it, and where the counter was
+abbrev pub handled_marks : List Entry → List ℕ → List ℕ → List Mark
+handled_marks [] moves counters = []
+handled_marks (e ∷ entries) moves counters =
+    M.Handled e (record { moved = first_word moves; counter = first_word counters })
+    ∷ handled_marks entries (rest_words moves) (rest_words counters)
+
+abbrev pub marks_of : List Entry → List ℕ → List ℕ → ℕ → Hand → List Mark
+marks_of entries moves counters stops hand = handled_marks entries moves counters ++ stop_marks stops (event_in hand)
 
 abbrev pub node_marks : {F : Type 0} → NodeView F → List Mark
-node_marks n = marks_of n.machine.entries n.machine.moves n.stops n.machine.hand
+node_marks n = marks_of n.machine.entries n.machine.moves n.counters n.stops n.machine.hand
 
 -- so many refills were stored; it isn't told where a call that failed had one in hand
 abbrev pub fills_by : ℕ → Hand → Option ℕ
@@ -79,6 +93,15 @@ origin_of chip n = record {
 -- a seat that was told these words knows where the counter had been moved to last
 abbrev pub HasBeenTold : List ℕ → ℕ → Type 0
 HasBeenTold informed move = (move ≡ 0) ⊎ Contains informed move
+
+-- that, and where the counter was, behind an entry
+pub record KnowsBehind (informed : List ℕ) (behind : Behind) : Type 0 where
+  pub moved : HasBeenTold informed behind.moved
+  pub counter : Contains informed behind.counter
+
+-- the word that the counter had been moved to last, and the one that was found in it last
+abbrev pub behind_last : {F : Type 0} → NodeView F → Behind
+behind_last n = record { moved = last_word n.machine.moves; counter = last_word n.counters }
 
 -- of a bearer that stopped, but for want of memory
 abbrev pub OnStop : Stop → Type 0 → Type 0

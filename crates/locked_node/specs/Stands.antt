@@ -8,8 +8,11 @@ use Rattle.machine_contract.specs.View.{MachineView}
 use Rattle.record_types.specs.declared.records.StoreRecord.{StoreRecord}
 use Rattle.event_definitions.specs.History.{Past}
 use Rattle.event_definitions.specs.Role.{Role}
+use Rattle.seq_word.specs.Seen.{WatcherView}
+use Rattle.store_definitions.specs.Config.{config_of}
 use Rattle.store_definitions.specs.Recovered.{IsRecovered}
 use Rattle.locked_node.specs.Asked.{AreAsked}
+use Rattle.locked_node.specs.Counted.{IsCounted}
 use Rattle.locked_node.specs.Node.{NodeView}
 
 -- the flash is the one that was found, some calls later
@@ -22,9 +25,10 @@ pub record IsLater (start now : Chip) : Type 0 where
   pub past : Remembers start now
 
 -- The machine stands over this flash, as the life found it and as it is, and over the records that the life found; and bearers have stopped
--- exactly if it is closed. Else the flash didn't fail since. No refill was stored before there was a job that draws.
+-- exactly if it is closed. Else the flash didn't fail since. No refill was stored before there was a job that draws. The seat that watches the
+-- counter is at the words that the machine publishes at, and has looked once behind each entry.
 pub record Holds {M F : Type 0} (stands : FlashFound → Chip → List StoreRecord → M → Type 0) (view : M → MachineView)
-    (chip : F → Chip) (machine : M) (start flash : F) (stops : ℕ) : Type 0 where
+    (chip : F → Chip) (machine : M) (watcher : WatcherView) (start flash : F) (stops : ℕ) : Type 0 where
   pub over : List StoreRecord
   pub read : IsRecovered (chip start).now over
   pub tie : stands (found_of (chip start)) (chip flash) over machine
@@ -35,6 +39,8 @@ pub record Holds {M F : Type 0} (stands : FlashFound → Chip → List StoreReco
   pub later : IsLater (chip start) (chip flash)
   pub asked : AreAsked (view machine).entries (view machine).fills
   pub taken : (view machine).taken ≤ length (view machine).entries
+  pub watches : watcher.which ≡ (view machine).which
+  pub counted : IsCounted (config_of over).mark (view machine) watcher.counters
 
 -- the same as a caller sees it
 pub record IsNode {F : Type 0} (role : Role) (image : List ℕ → Type 0) (chip : F → Chip)
@@ -51,6 +57,8 @@ pub record IsNode {F : Type 0} (role : Role) (image : List ℕ → Type 0) (chip
   pub asked : AreAsked n.machine.entries n.machine.fills
   -- no more entries were taken than there are
   pub taken : n.machine.taken ≤ length n.machine.entries
+  -- where the counter was behind each
+  pub counted : IsCounted (config_of over).mark n.machine n.counters
 
 -- A machine that shows this stands over the flash, as the life found it and as it is, and over the records that the life found.
 pub record HasMachine {M F : Type 0} (stands : FlashFound → Chip → List StoreRecord → M → Type 0) (view : M → MachineView)

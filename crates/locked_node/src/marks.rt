@@ -8,10 +8,18 @@ use std::collections::LinkedList;
 
 /// An entry of the lock.
 pub enum Mark {
-    /// An entry of the history, with the word that the counter had been moved to last behind it, 0 where it hadn't been.
-    Handled(Entry, u64),
+    /// An entry of the history, with what the counter was behind it.
+    Handled(Entry, Behind),
     /// A bearer stopped, since the flash failed; with the event that was in hand when it failed, if there was one.
     Stopped(Option<Event>),
+}
+
+/// The counter of sequence numbers behind an entry.
+pub struct Behind {
+    /// The word that it had been moved to last, 0 where it hadn't been.
+    pub moved: u64,
+    /// The word that was found in it.
+    pub counter: u64,
 }
 
 /// The order to tear a call of the flash.

@@ -5,16 +5,17 @@ ghost use Rattle.std.specs.Prelude.{◌≡◌, ◌≢◌, ℕ, ◌+◌, ◌<◌,
 ghost use Rattle.flash_model.specs.Chip.{Chip, KeepsCount};
 ghost use Rattle.record_types.specs.declared.records.StoreRecord.{StoreRecord};
 ghost use Rattle.run_definitions.specs.Order.{is_outside};
-ghost use Rattle.seq_word.specs.Seen.{IsBelow, IsFoundBy, last_word};
+ghost use Rattle.seq_word.specs.Seen.{IsAbove, IsFoundBy, last_word};
 ghost use Rattle.seq_word.specs.Word.{seq_of};
+ghost use Rattle.store_definitions.specs.Config.{config_of};
 ghost use Rattle.store_definitions.specs.Recovered.{IsRecovered};
 ghost use Rattle.turn_lock.specs.Entries.{IsPrefix};
 ghost use Rattle.machine_contract.specs.Opening.{found_of};
 ghost use Rattle.machine_contract.specs.Ranges.{IsEvent, IsJob, IsQuiet};
 ghost use Rattle.machine_contract.specs.View.{entry_for};
 ghost use Rattle.locked_node.specs.declared.marks.Mark.TheVariants as Marks;
-ghost use Rattle.locked_node.specs.Asked.{AreAsked, WasAsked};
-ghost use Rattle.locked_node.specs.Node.{HasBeenTold, IsStopped, IsStoppedBare, NodeView, OnStop, node_marks, origin_of};
+ghost use Rattle.locked_node.specs.Asked.{WasAsked};
+ghost use Rattle.locked_node.specs.Node.{IsStopped, IsStoppedBare, KnowsBehind, NodeView, OnStop, behind_last, node_marks, origin_of};
 ghost use Rattle.locked_node.specs.Stands.{HasMachine, Holds, IsLater, IsNode};
 
 use crate::known::Known;
@@ -24,7 +25,7 @@ use flash_model::{Bench, Flash};
 use machine_contract::{Answered, Machine, ReadBefore, Stop};
 use mesh_types::events::Event;
 use mesh_types::history::Entry;
-use seq_word::{Drawer, Dry, Numbers};
+use seq_word::{Drawer, Dry, Numbers, Watcher};
 use std::alloc::{AllocError, Global};
 use std::marker::Model;
 use turn_lock::Logged;
@@ -44,6 +45,8 @@ pub struct Node<M: Machine, F: Flash + Send + Drop> {
 #[derive(Drop)]
 pub(crate) struct Held<M: Machine, F: Flash + Send + Drop> {
     pub(crate) machine: M,
+    // It looks at the counter behind each entry.
+    pub(crate) watcher: Watcher,
     pub(crate) flash: F,
     start: Known<F>,
     stops: u32,
@@ -57,13 +60,15 @@ impl<M: Machine, F: Flash + Send + Drop> Model for Node<M, F> {
 
     ghost view = { λ n. record {
       machine = M.view n.held.value.machine;
+      counters = n.held.value.watcher.counters;
       start = n.held.value.start;
       flash = n.held.value.flash;
       stops = n.held.value.stops;
     } };
 
     ghost invariant = { λ n.
-        Holds M.stands M.view F.chip n.held.value.machine n.held.value.start n.held.value.flash n.held.value.stops };
+        Holds M.stands M.view F.chip n.held.value.machine n.held.value.watcher n.held.value.start n.held.value.flash
+        n.held.value.stops };
 }
 
 impl<M: Machine, F: Flash + Send + Drop> Logged for Node<M, F> {
@@ -82,20 +87,33 @@ impl<M: Machine, F: Flash + Send + Drop> Logged for Node<M, F> {
 }
 
 impl<M: Machine, F: Flash + Send + Drop> Node<M, F> {
-    /// A machine with its flash, which the life found as `start` says. For want of memory both are dropped.
-    pub fn new(alloc: Global, machine: M, flash: F, start: Known<F>) -> Result<Self, AllocError>
+    /// A machine with its flash, which the life found as `start` says, before its first event. The watcher looks at the counter behind each event. For
+    /// want of memory all are dropped.
+    pub fn new(
+        alloc: Global,
+        machine: M,
+        watcher: Watcher,
+        flash: F,
+        start: Known<F>,
+    ) -> Result<Self, AllocError>
         requires stands { (over : List StoreRecord) × IsRecovered (F.chip start).now over
             × M.stands (found_of (F.chip start)) (F.chip flash) over machine }
         requires usable { (M.view machine).closed ≡ false }
         requires later { IsLater (F.chip start) (F.chip flash) }
         requires no_fault { (F.chip flash).faults ≡ (F.chip start).faults }
-        requires asked { AreAsked (M.view machine).entries (M.view machine).fills }
-        requires taken { (M.view machine).taken ≤ length (M.view machine).entries }
+        requires entries { (M.view machine).entries ≡ [] }
+        requires taken { (M.view machine).taken ≡ 0 }
+        requires fills { (M.view machine).fills ≡ 0 }
+        requires published { (over : List StoreRecord) → IsRecovered (F.chip start).now over
+            → (M.view machine).mark ≡ (config_of over).mark }
+        requires watcher { watcher ≡ record { which = (M.view machine).which; counters = [] } }
         ensures value { IfOk result
-            (λ node. node ≡ record { machine = M.view machine; start = start; flash = flash; stops = 0 }) }
+            (λ node. node
+            ≡ record { machine = M.view machine; counters = []; start = start; flash = flash; stops = 0 }) }
     {
         let held = Held {
             machine,
+            watcher,
             flash,
             start,
             stops: 0,
@@ -111,8 +129,8 @@ impl<M: Machine, F: Flash + Send + Drop> Node<M, F> {
         self.held.machine.reader(reader);
     }
 
-    /// Handles an event of a bearer, which may have been read before, and tells the bearer's seat where the counter was moved to so far (`informed`).
-    /// Where the flash failed, now or before, the bearer's mark is put.
+    /// Handles an event of a bearer, which may have been read before, and tells the bearer's seat where the counter was moved to so far, and where it
+    /// is (`informed`): all that the seat drew before is below that (`above`). Where the flash failed, now or before, the bearer's mark is put.
     ///
     /// An event is refused for want of memory too where 2^32 - 1 bearers have stopped.
     pub fn handle(
@@ -134,8 +152,8 @@ impl<M: Machine, F: Flash + Send + Drop> Node<M, F> {
             (λ r. node_marks self.new
             ≡ node_marks self.old
             ++ Marks.Handled (entry_for self.old.machine bearer number event.now r.answer r.jobs)
-            (last_word self.new.machine.moves) ∷ []) }
-        ensures informed { OnOk result (HasBeenTold drawer.new.informed (last_word self.new.machine.moves)) }
+            (behind_last self.new) ∷ []) }
+        ensures informed { OnOk result (KnowsBehind drawer.new.informed (behind_last self.new)) }
         ensures more { IsPrefix drawer.old.informed drawer.new.informed }
         ensures drawer { drawer.new ≡ record drawer.old { informed = drawer.new.informed } }
         ensures place { IfOk result (λ r. r.at ≡ length (node_marks self.old)) }
@@ -143,7 +161,9 @@ impl<M: Machine, F: Flash + Send + Drop> Node<M, F> {
         // Where the counter was moved with this event, all that the seat had drawn, or noted, is below where it was moved to.
         ensures until { OnOk result
             ((last_word self.new.machine.moves ≡ last_word self.old.machine.moves)
-            ⊎ IsBelow drawer.old (last_word self.new.machine.moves)) }
+            ⊎ IsAbove drawer.old (last_word self.new.machine.moves)) }
+        // And it is below where the counter is behind it.
+        ensures above { OnOk result (IsAbove drawer.old (last_word self.new.counters)) }
         ensures fills { OnOk result (self.new.machine.fills ≡ 0) }
         ensures jobs { IfOk result (λ r. All (IsJob event.now) r.jobs) }
         ensures quiet { is_outside event.now ≡ false → IfOk result (λ r. All IsQuiet r.jobs) }
@@ -161,6 +181,7 @@ impl<M: Machine, F: Flash + Send + Drop> Node<M, F> {
             .handle(n, &mut held.flash, bearer, number, event, early)
         {
             Ok(answered) => {
+                n.watch(&mut held.watcher, drawer);
                 held.machine.inform(n, drawer);
                 Ok(answered)
             }
@@ -270,6 +291,7 @@ impl<M: Machine, F: Flash + Send + Drop> Node<M, F> {
         let Node { held } = self;
         let Held {
             machine,
+            watcher: _,
             flash,
             start: _,
             stops: _,

@@ -11,7 +11,7 @@ ghost use Rattle.machine_contract.specs.Refused.{IsRefused};
 ghost use Rattle.machine_contract.specs.View.{entry_for, with_entry};
 ghost use Rattle.record_types.specs.declared.records.StoreRecord.{StoreRecord};
 ghost use Rattle.run_definitions.specs.Order.{is_outside};
-ghost use Rattle.seq_word.specs.Seen.{IsBelow, IsFoundBy, last_word, went_to};
+ghost use Rattle.seq_word.specs.Seen.{IsAbove, IsFoundBy, last_word, went_to};
 ghost use Rattle.seq_word.specs.Word.{seq_of};
 
 use crate::memory::Memory;
@@ -72,7 +72,8 @@ impl LowPowerState {
             (last_word (went_to self.new.reserve.keeper.advances)) (shown self.new).mark) }
         ensures place { IfOk result (λ r. r.at ≡ length (shown self.old).entries) }
         ensures risen { OnOk result
-            ((self.new.reserve.keeper.advances ≡ self.old.reserve.keeper.advances)
+            (((self.new.reserve.keeper.advances ≡ self.old.reserve.keeper.advances)
+            × ((shown self.new).mark ≡ (shown self.old).mark))
             ⊎ ((shown self.new).mark ≡ last_word (went_to self.new.reserve.keeper.advances))) }
         ensures usable { OnOk result ((shown self.old).closed ≡ false) }
         ensures no_fault { OnOk result ((F.chip flash.new).faults ≡ (F.chip flash.old).faults) }
@@ -123,7 +124,7 @@ impl LowPowerState {
         requires drawer_made { d.old.which ≡ n.now.which }
         ensures same { self.new ≡ self.old }
         ensures informed { d.new ≡ record d.old { informed = d.old.informed ++ went_to self.old.reserve.keeper.advances } }
-        ensures below { IsBelow d.old (shown self.old).mark }
+        ensures below { IsAbove d.old (shown self.old).mark }
     {
         self.reserve.inform(n, d);
     }

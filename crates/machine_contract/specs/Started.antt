@@ -18,6 +18,7 @@ pub record IsStarted {M : Type 0} (view : M → MachineView) (stands : FlashFoun
   pub runs : (config_of over).reset ≡ false
   pub state : s.state ≡ (config_of over).iv
   pub mark : s.mark ≡ (config_of over).mark
+  pub published : (view s.machine).mark ≡ (config_of over).mark
   pub tie : stands (found_of old) new over s.machine
   pub no_fault : new.faults ≡ old.faults
   pub entries : (view s.machine).entries ≡ []

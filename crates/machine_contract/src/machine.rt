@@ -10,7 +10,7 @@ ghost use Rattle.record_types.specs.declared.records.StoreRecord.{StoreRecord};
 ghost use Rattle.event_definitions.specs.History.{Past};
 ghost use Rattle.event_definitions.specs.Role.{Role};
 ghost use Rattle.run_definitions.specs.Order.{is_outside};
-ghost use Rattle.seq_word.specs.Seen.{IsBelow, IsFoundBy, last_word, went_to};
+ghost use Rattle.seq_word.specs.Seen.{IsAbove, IsFoundBy, last_word, went_to};
 ghost use Rattle.seq_word.specs.Word.{seq_of};
 ghost use Rattle.machine_contract.specs.Idle.{IsDueIn, IsIdleFor, IsQuietTick};
 ghost use Rattle.machine_contract.specs.Moved.{HasMoved};
@@ -132,9 +132,10 @@ pub trait Machine: Send + Drop {
         ensures jobs { IfOk result (λ r. All (IsJob event.now) r.jobs) }
         // After the lines of what isn't from outside nothing is handled.
         ensures quiet { is_outside event.now ≡ false → IfOk result (λ r. All IsQuiet r.jobs) }
-        // Where the counter was moved, the mark is the word that it was moved to last.
+        // The counter wasn't moved, and the mark stays; or the mark is the word that it was moved to last.
         ensures risen { OnOk result
-            ((advances self.new ≡ advances self.old) ⊎ ((view self.new).mark ≡ last_word (went_to (advances self.new)))) }
+            (((advances self.new ≡ advances self.old) × ((view self.new).mark ≡ (view self.old).mark))
+            ⊎ ((view self.new).mark ≡ last_word (went_to (advances self.new)))) }
         // It makes no read call on the flash, whatever it answers.
         ensures unread { (F.chip flash.new).reads ≡ (F.chip flash.old).reads }
         // Once a call of the flash has failed, it makes none.
@@ -149,14 +150,14 @@ pub trait Machine: Send + Drop {
         ensures frame { Keeps (F.chip flash.old) (F.chip flash.new) };
 
     /// Tells a seat that draws where the machine has moved the counter to so far. What it draws from now on isn't below that (`above` of `try_draw` in
-    /// `seq_word`), and what it has drawn is below the mark that the machine published last (`below`). The machine stays as it is, and it takes no
-    /// memory.
+    /// `seq_word`), and the mark that the machine published last is above what it has drawn, and not below where it was told that the counter is
+    /// (`below`). The machine stays as it is, and it takes no memory.
     fn inform(&mut self, n: &Numbers, d: &mut Drawer)
         requires made { (view self.old).which ≡ n.now.which }
         requires drawer_made { d.old.which ≡ n.now.which }
         ensures same { self.new ≡ self.old }
         ensures informed { d.new ≡ record d.old { informed = d.old.informed ++ went_to (advances self.old) } }
-        ensures below { IsBelow d.old (view self.old).mark };
+        ensures below { IsAbove d.old (view self.old).mark };
 
     /// Stores a refill, and publishes its mark, 256 higher, where the mark that a draw reached is the one published last (`filled`); else a
     /// refill came between, and nothing changes (`nothing`). Returns the mark that is published then. It takes no memory, and reads nothing of the

@@ -101,7 +101,7 @@ advances_are c (item ∷ items) =
     ap (λ l. l ++ advances_of (changed c item) items) (advance_is c item)
     ∙ ap (λ l. rise c (changed c item) ++ l) (advances_are (changed c item) items)
 
--- Where it was moved, the mark is the word that it was moved to last.
-pub risen_so : (old new : KeeperView) → HasRisen old new → (new.advances ≡ old.advances) ⊎ (new.mark ≡ last_word (went_to new.advances))
-risen_so old new (inl same) = inl (ap (λ (k : KeeperView). k.advances) same)
+-- Where it wasn't moved, the mark stays; else the mark is the word that it was moved to last.
+pub risen_so : (old new : KeeperView) → HasRisen old new → ((new.advances ≡ old.advances) × (new.mark ≡ old.mark)) ⊎ (new.mark ≡ last_word (went_to new.advances))
+risen_so old new (inl same) = inl (ap (λ (k : KeeperView). k.advances) same, ap (λ (k : KeeperView). k.mark) same)
 risen_so old new (inr rise) = inr rise

@@ -111,7 +111,7 @@ impl MeshMachine {
             (last_word (went_to (advances_of self.new))) (shown self.new).mark) }
         ensures place { IfOk result (λ r. r.at ≡ length (shown self.old).entries) }
         ensures risen { OnOk result
-            ((advances_of self.new ≡ advances_of self.old)
+            (((advances_of self.new ≡ advances_of self.old) × ((shown self.new).mark ≡ (shown self.old).mark))
             ⊎ ((shown self.new).mark ≡ last_word (went_to (advances_of self.new)))) }
         ensures usable { OnOk result ((shown self.old).closed ≡ false) }
         ensures no_fault { OnOk result ((F.chip flash.new).faults ≡ (F.chip flash.old).faults) }
@@ -158,7 +158,7 @@ impl MeshMachine {
             (last_word (went_to (advances_of self.new))) (shown self.new).mark) }
         ensures place { IfOk result (λ r. r.at ≡ length (shown self.old).entries) }
         ensures risen { OnOk result
-            ((advances_of self.new ≡ advances_of self.old)
+            (((advances_of self.new ≡ advances_of self.old) × ((shown self.new).mark ≡ (shown self.old).mark))
             ⊎ ((shown self.new).mark ≡ last_word (went_to (advances_of self.new)))) }
         ensures usable { OnOk result ((shown self.old).closed ≡ false) }
         ensures no_fault { OnOk result ((F.chip flash.new).faults ≡ (F.chip flash.old).faults) }

@@ -15,7 +15,7 @@ ghost use Rattle.mesh_machine.specs.Handling.{IsKnownFor};
 ghost use Rattle.mesh_world.specs.World.{World};
 ghost use Rattle.record_types.specs.declared.records.StoreRecord.{StoreRecord};
 ghost use Rattle.run_definitions.specs.Order.{is_outside};
-ghost use Rattle.seq_word.specs.Seen.{IsBelow, IsFoundBy, last_word, went_to};
+ghost use Rattle.seq_word.specs.Seen.{IsAbove, IsFoundBy, last_word, went_to};
 ghost use Rattle.seq_word.specs.Word.{seq_of};
 ghost use Rattle.store_world.specs.Standing.{IsWorldOf};
 
@@ -80,7 +80,8 @@ impl MeshState {
             (last_word (went_to self.new.reserve.keeper.advances)) (shown self.new).mark) }
         ensures place { IfOk result (λ r. r.at ≡ length (shown self.old).entries) }
         ensures risen { OnOk result
-            ((self.new.reserve.keeper.advances ≡ self.old.reserve.keeper.advances)
+            (((self.new.reserve.keeper.advances ≡ self.old.reserve.keeper.advances)
+            × ((shown self.new).mark ≡ (shown self.old).mark))
             ⊎ ((shown self.new).mark ≡ last_word (went_to self.new.reserve.keeper.advances))) }
         ensures usable { OnOk result ((shown self.old).closed ≡ false) }
         ensures no_fault { OnOk result ((F.chip flash.new).faults ≡ (F.chip flash.old).faults) }
@@ -139,7 +140,7 @@ impl MeshState {
         requires drawer_made { d.old.which ≡ n.now.which }
         ensures same { self.new ≡ self.old }
         ensures informed { d.new ≡ record d.old { informed = d.old.informed ++ went_to self.old.reserve.keeper.advances } }
-        ensures below { IsBelow d.old (shown self.old).mark }
+        ensures below { IsAbove d.old (shown self.old).mark }
     {
         self.parts.reserve.inform(n, d);
     }

@@ -11,7 +11,7 @@ ghost use Rattle.node_store.specs.Tie.{IsPut, IsStoreOf};
 ghost use Rattle.node_store.specs.Writing.{CostsCalls, CutLeaves, FailsAtFlash, LeavesFlash, OnlyAnswers, Puts};
 ghost use Rattle.record_types.specs.declared.records.StoreRecord.{StoreRecord};
 ghost use Rattle.seq_reserve.specs.Reserving.{first_word, IsDurable, IsPublished, moving, refilling};
-ghost use Rattle.seq_word.specs.Seen.{IsBelow, IsFoundBy, fresh, went_to};
+ghost use Rattle.seq_word.specs.Seen.{IsAbove, IsFoundBy, fresh, went_to};
 ghost use Rattle.seq_word.specs.Word.{seq_of};
 ghost use Rattle.store_definitions.specs.Numbers.{fill_of, moved};
 ghost use Rattle.store_definitions.specs.Wear.{CostsAndUses, CostsAtMost};
@@ -53,14 +53,14 @@ impl Reserve {
         Ok((Reserve { store, keeper }, numbers, drawer))
     }
 
-    /// Tells a seat that draws where the keeper has moved the counter to so far, and that what it has drawn is below the keeper's mark: `inform` of
+    /// Tells a seat that draws where the keeper has moved the counter to so far, and that the keeper's mark is above what it has drawn: `inform` of
     /// `seq_word`.
     pub fn inform(&mut self, n: &Numbers, d: &mut Drawer)
         requires made { self.old.keeper.which ≡ n.now.which }
         requires drawer_made { d.old.which ≡ n.now.which }
         ensures same { self.new ≡ self.old }
         ensures informed { d.new ≡ record d.old { informed = d.old.informed ++ went_to self.old.keeper.advances } }
-        ensures below { IsBelow d.old self.old.keeper.mark }
+        ensures below { IsAbove d.old self.old.keeper.mark }
     {
         n.inform(&mut self.keeper, d);
     }

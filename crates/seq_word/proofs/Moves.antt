@@ -14,7 +14,7 @@ use Rattle.seq_word.specs.declared.looks.Look.{Look}
 use Rattle.seq_word.specs.declared.looks.Look.TheVariants as saw
 use Rattle.seq_word.specs.declared.rule.View.{View}
 use Rattle.seq_word.specs.Word.{IsWord, seq_of}
-use Rattle.seq_word.specs.Rule.{times, once_below, passed_over, gone, drawn_here, IsReached, HasReached, IsEndOf, IsOver, IsPast, IsWithin, Fits, Stands, Ruled, owes_above, IsPromised, owed_behind, next_above, above_last, nobody, first_keeper, without_parts, first_drawer, part_of, keeping, split_off, owing, promise_of, mark_of, draws_of, moves_of, both, seeing, drawing, publishing, lifting, advancing, forgetting, IsLastSeen, SeesMark, SeesNext, Draws, Publishes, Lifts, Advances, Bounds, DrawnOnce}
+use Rattle.seq_word.specs.Rule.{times, once_below, passed_over, gone, drawn_here, IsReached, HasReached, IsEndOf, IsOver, IsPast, IsWithin, Fits, Stands, Ruled, owes_above, IsPromised, owed_behind, next_above, above_last, nobody, first_keeper, without_parts, first_drawer, part_of, keeping, split_off, owing, promise_of, mark_of, draws_of, watch_of, counters_of, moves_of, both, seeing, drawing, publishing, lifting, advancing, forgetting, counting, IsLastSeen, SeesMark, SeesNext, Draws, Publishes, Lifts, Advances, Bounds, Counts, DrawnOnce}
 use Rattle.seq_word.proofs.Sums.{sum_by_at, share_of_one, share_of_two, share_alone, part_of-one, part_of-none, once_below-le, once_below_more, once_below-max, once_below-none, once_below-above, once_below-behind, once_below-greater, same-one, times_contains}
 
 -- the last two of a list
@@ -39,6 +39,7 @@ fits_later o n m k n' m' k' by v h up up' keeper = record {
   since = h.since;
   drawn = λ i d l. omega (arith, h.drawn i d l);
   raised = λ i d l. omega (arith, h.raised i d l);
+  counters = λ i d l. omega (arith, h.counters i d l);
   noted = λ i d l. omega (arith, h.noted i d l);
   looks = All-weaker (IsWithin n m) (IsWithin n' m') (within_later n m n' m' up up') v.looks h.looks;
   known = All-weaker (IsWithin n m) (IsWithin n' m') (within_later n m n' m' up up') v.known h.known;
@@ -164,6 +165,7 @@ fits_seeing o n m k by v look within fits = record {
   since = fits.since;
   drawn = fits.drawn;
   raised = fits.raised;
+  counters = fits.counters;
   noted = fits.noted;
   looks = All-push (IsWithin n m) v.looks look fits.looks within;
   known = fits.known;
@@ -239,6 +241,7 @@ drawn_now o n m k views id v h at is below unspent =
       since = All-push (λ x. o ≤ x) v.drawn n fits.since h.opening;
       drawn = All-push (λ x. x < n + 1) v.drawn n later.drawn (omega arith);
       raised = All-push (λ x. x ≤ n + 1) v.raised (n + 1) later.raised (omega arith);
+      counters = later.counters;
       noted = later.noted;
       looks = later.looks;
       known = later.known;
@@ -297,6 +300,7 @@ marks o n m k views id v mark moving h at is up word near =
       since = fits.since;
       drawn = fits.drawn;
       raised = fits.raised;
+      counters = fits.counters;
       noted = fits.noted;
       looks = All-weaker (IsWithin n m) (IsWithin n mark) (within_later n m n mark (omega arith) rises) v.looks fits.looks;
       known = All-weaker (IsWithin n m) (IsWithin n mark) (within_later n m n mark (omega arith) rises) v.known fits.known;
@@ -357,6 +361,7 @@ advances {S} o slots id me to is within word first =
             since = later.since;
             drawn = later.drawn;
             raised = later.raised;
+            counters = later.counters;
             noted = later.noted;
             looks = later.looks;
             known = later.known;
@@ -384,41 +389,77 @@ advances {S} o slots id me to is within word first =
     grows : (v : View) (n : ℕ) (x : ℕ) → times x v.drawn ≤ times x (advancing v n to).drawn
     grows v n x = omega arith
 
--- the keeper is told what was drawn: that is below the counter, and the counter not above the mark
+-- what is over all that a seat knows stays so where it is higher
+past_above : (n x : ℕ) → n ≤ x → (look : Look) → IsPast n look → IsPast x look
+past_above n x up (saw.Mark y) h = tt
+past_above n x up (saw.Counter y) h = let le : y ≤ n = h in omega arith
+
+over_above : (n x : ℕ) (v : View) → n ≤ x → IsOver n v → IsOver x v
+over_above n x v up h = record {
+  drawn = λ i d l. omega (arith, h.drawn i d l, up);
+  noted = λ i d l. omega (arith, h.noted i d l, up);
+  looks = All-weaker (IsPast n) (IsPast x) (past_above n x up) v.looks h.looks;
+  known = All-weaker (IsPast n) (IsPast x) (past_above n x up) v.known h.known;
+  informed = λ i d l. omega (arith, h.informed i d l, up);
+  owes = omega (arith, h.owes, up);
+}
+
+-- what a seat was told is forgotten, and these words were found in the counter
+fits_with : (o n m k by : ℕ) (v : View) (counters : List ℕ) → All (λ x. x ≤ n) counters → Fits o n m k by v → Fits o n m k by (record v { noted = []; known = []; informed = []; counters = counters })
+fits_with o n m k by v counters found fits = record {
+  since = fits.since;
+  drawn = fits.drawn;
+  raised = fits.raised;
+  counters = found;
+  noted = All-nil (λ x. x < n);
+  looks = fits.looks;
+  known = All-nil (IsWithin n m);
+  informed = All-nil (λ x. x ≤ n);
+  advances = fits.advances;
+  keeps = fits.keeps;
+  near = fits.near;
+  owes = fits.owes;
+  promised = fits.promised;
+  marked = fits.marked;
+  plain = fits.plain;
+  idle = fits.idle;
+  free = fits.free;
+}
+
+forgets : (o n m k : ℕ) (views : List View) (id : ℕ) (v : View) (counters : List ℕ) → Stands o n m k views → get_elem? views id ≡ some v → All (λ x. x ≤ n) counters
+    → Stands o n m k (set views id (record v { noted = []; known = []; informed = []; counters = counters }))
+forgets o n m k views id v counters h at found =
+    let w : View = record v { noted = []; known = []; informed = []; counters = counters } in
+    let grows : (x : ℕ) → times x v.drawn ≤ times x w.drawn = λ x. omega arith in
+    let more = more_drawn views id v w at grows in
+    moves o n m k n m k views id v w h at h.counter_word h.mark_word (omega arith) (omega arith) h.in_order (λ j apart e. (e, refl)) (λ x. refl) refl refl
+    (λ _. omega arith)
+    (inl refl)
+    grows
+    (reached_later o views (set views id w) n more h.reached)
+    (looks_later o views (set views id w) more v.looks (h.found id v at))
+    (fits_with o n m k id v counters found (h.each id v at))
+
+-- the keeper is told of the draws: the counter is over all that, and not above the mark
 pub bounds : {S : Type 0} (o slots id : ℕ) (me : Me S View) → me.0.keeps ≡ true → Allows (Ruled o) slots id me 0 (λ n. n) (Bounds (step slots 0 0 0 none) me)
 bounds {S} o slots id me is =
     goes_counter o slots id me (λ n. n) (Bounds (step slots 0 0 0 none) me)
     (λ n m k views h at.
-    let v = me.0 in
-    let fits = h.each id v at in
-    let grows : (x : ℕ) → times x v.drawn ≤ times x (forgetting v).drawn = λ x. omega arith in
-    let more = more_drawn views id v (forgetting v) at grows in (
-      forgetting v,
-      moves o n m k n m k views id v (forgetting v) h at h.counter_word h.mark_word (omega arith) (omega arith) h.in_order (λ j apart e. (e, refl)) (λ x. refl) refl refl
-          (λ _. omega arith)
-          (inl refl)
-          grows
-          (reached_later o views (set views id (forgetting v)) n more h.reached)
-          (looks_later o views (set views id (forgetting v)) more v.looks (h.found id v at))
-          (record {
-            since = fits.since;
-            drawn = fits.drawn;
-            raised = fits.raised;
-            noted = All-nil (λ x. x < n);
-            looks = fits.looks;
-            known = fits.known;
-            informed = fits.informed;
-            advances = fits.advances;
-            keeps = fits.keeps;
-            near = fits.near;
-            owes = fits.owes;
-            promised = fits.promised;
-            marked = fits.marked;
-            plain = fits.plain;
-            idle = fits.idle;
-            free = fits.free;
-          }),
-      (refl, λ i d l. omega (arith, fits.noted i d l, h.in_order, (fits.keeps is).1)),
+    let fits = h.each id me.0 at in (
+      forgetting me.0,
+      forgets o n m k views id me.0 me.0.counters h at fits.counters,
+      (refl, over_above n me.0.mark me.0 (omega (arith, h.in_order, (fits.keeps is).1)) (over o n m k id me.0 fits)),
+    ))
+
+-- a seat that watches the counter is told of the draws: the counter is over all that
+pub counts : {S : Type 0} (o slots id : ℕ) (me : Me S View) → Allows (Ruled o) slots id me 0 (λ n. n) (Counts (step slots 0 0 0 none) me)
+counts {S} o slots id me =
+    goes_counter o slots id me (λ n. n) (Counts (step slots 0 0 0 none) me)
+    (λ n m k views h at.
+    let fits = h.each id me.0 at in (
+      counting me.0 n,
+      forgets o n m k views id me.0 (me.0.counters ++ n ∷ []) h at (All-push (λ x. x ≤ n) me.0.counters n fits.counters (omega arith)),
+      (refl, over o n m k id me.0 fits, fits.counters),
     ))
 
 off : false ≡ true → ⊥
@@ -429,6 +470,7 @@ fits_nobody o n m k by = record {
   since = All-nil (λ x. o ≤ x);
   drawn = All-nil (λ x. x < n);
   raised = All-nil (λ x. x ≤ n);
+  counters = All-nil (λ x. x ≤ n);
   noted = All-nil (λ x. x < n);
   looks = All-nil (IsWithin n m);
   known = All-nil (IsWithin n m);
@@ -459,6 +501,7 @@ begins {S} first word = record {
       since = none.since;
       drawn = none.drawn;
       raised = none.raised;
+      counters = none.counters;
       noted = none.noted;
       looks = none.looks;
       known = none.known;
@@ -577,6 +620,7 @@ fits_drawer o n m k by parts noted known below within =
       since = none.since;
       drawn = none.drawn;
       raised = none.raised;
+      counters = none.counters;
       noted = below;
       looks = none.looks;
       known = within;
@@ -600,6 +644,7 @@ fits_promise o n m k by promised marked most below =
       since = none.since;
       drawn = none.drawn;
       raised = none.raised;
+      counters = none.counters;
       noted = none.noted;
       looks = none.looks;
       known = none.known;
@@ -623,6 +668,7 @@ fits_told o n m k by advances moved =
       since = none.since;
       drawn = none.drawn;
       raised = none.raised;
+      counters = none.counters;
       noted = none.noted;
       looks = none.looks;
       known = none.known;
@@ -639,17 +685,19 @@ fits_told o n m k by advances moved =
     }
 
 -- a seat that was told what was drawn, alone
-fits_shown : (o n m k by : ℕ) (noted : List ℕ) → All (λ x. x < n) noted → Fits o n m k by (record nobody { noted = noted })
-fits_shown o n m k by noted below =
+fits_shown : (o n m k by : ℕ) (noted : List ℕ) (known : List Look) (informed : List ℕ) → All (λ x. x < n) noted → All (IsWithin n m) known → All (λ x. x ≤ n) informed
+    → Fits o n m k by (record nobody { noted = noted; known = known; informed = informed })
+fits_shown o n m k by noted known informed below within told =
     let none = fits_nobody o n m k by in
     record {
       since = none.since;
       drawn = none.drawn;
       raised = none.raised;
+      counters = none.counters;
       noted = below;
       looks = none.looks;
-      known = none.known;
-      informed = none.informed;
+      known = within;
+      informed = told;
       advances = none.advances;
       keeps = none.keeps;
       near = none.near;
@@ -667,6 +715,7 @@ fits_parts o n m k by parts v fits = record {
   since = fits.since;
   drawn = fits.drawn;
   raised = fits.raised;
+  counters = fits.counters;
   noted = fits.noted;
   looks = fits.looks;
   known = fits.known;
@@ -688,6 +737,7 @@ fits_owing o n m k by owes v is most fits = record {
   since = fits.since;
   drawn = fits.drawn;
   raised = fits.raised;
+  counters = fits.counters;
   noted = fits.noted;
   looks = fits.looks;
   known = fits.known;
@@ -803,7 +853,7 @@ tells {S} o id v is s h at =
           (λ draws _. absurd (off draws));
     }
 
--- a seat that tells what was drawn is split off any seat
+-- a seat that tells what was drawn and seen is split off any seat
 pub shows : {S : Type 0} (o id : ℕ) (v : View) → Splits {S = S} (Ruled o) id v v (draws_of v)
 shows {S} o id v s h at =
     let st = h.stands in
@@ -816,7 +866,8 @@ shows {S} o id v s h at =
       stands = cuts o h.next h.mark h.keeper s.views id v v (draws_of v) st at
           (λ x. omega arith)
           fits
-          (λ by. fits_shown o h.next h.mark h.keeper by (v.noted ++ v.drawn) (All-append (λ x. x < h.next) v.noted v.drawn fits.noted fits.drawn))
+          (λ by. fits_shown o h.next h.mark h.keeper by (v.noted ++ v.drawn) (v.known ++ v.looks) v.informed (All-append (λ x. x < h.next) v.noted v.drawn fits.noted fits.drawn)
+          (All-append (IsWithin h.next h.mark) v.known v.looks fits.known fits.looks) fits.informed)
           refl
           refl
           refl
@@ -842,6 +893,56 @@ informs {S} o id v s h at =
           (λ x. omega arith)
           fits
           (λ by. fits_told o h.next h.mark h.keeper by v.advances fits.advances)
+          refl
+          refl
+          refl
+          (omega arith)
+          refl
+          (omega arith)
+          (omega arith)
+          (λ is empty. omega (arith, st.lost id v at is empty))
+          (λ draws _. absurd (off draws));
+    }
+
+-- a seat that knows nothing is split off any seat
+pub watches : {S : Type 0} (o id : ℕ) (v : View) → Splits {S = S} (Ruled o) id v v (watch_of v)
+watches {S} o id v s h at =
+    let st = h.stands in
+    let fits = st.each id v at in
+    record {
+      next = h.next;
+      mark = h.mark;
+      keeper = h.keeper;
+      words = h.words;
+      stands = cuts o h.next h.mark h.keeper s.views id v v (watch_of v) st at
+          (λ x. omega arith)
+          fits
+          (λ by. fits_nobody o h.next h.mark h.keeper by)
+          refl
+          refl
+          refl
+          (omega arith)
+          refl
+          (omega arith)
+          (omega arith)
+          (λ is empty. omega (arith, st.lost id v at is empty))
+          (λ draws _. absurd (off draws));
+    }
+
+-- a seat that tells where the counter was is split off any seat
+pub recalls : {S : Type 0} (o id : ℕ) (v : View) → Splits {S = S} (Ruled o) id v v (counters_of v)
+recalls {S} o id v s h at =
+    let st = h.stands in
+    let fits = st.each id v at in
+    record {
+      next = h.next;
+      mark = h.mark;
+      keeper = h.keeper;
+      words = h.words;
+      stands = cuts o h.next h.mark h.keeper s.views id v v (counters_of v) st at
+          (λ x. omega arith)
+          fits
+          (λ by. fits_shown o h.next h.mark h.keeper by [] [] v.counters (All-nil (λ x. x < h.next)) (All-nil (IsWithin h.next h.mark)) fits.counters)
           refl
           refl
           refl
@@ -910,6 +1011,7 @@ glues o n m k k' views id other v w h at apart there mine near others =
       since = All-append (λ x. o ≤ x) v.drawn w.drawn fits.since theirs.since;
       drawn = All-append (λ x. x < n) v.drawn w.drawn fits.drawn theirs.drawn;
       raised = All-append (λ x. x ≤ n) v.raised w.raised fits.raised theirs.raised;
+      counters = All-append (λ x. x ≤ n) v.counters w.counters fits.counters theirs.counters;
       noted = All-append (λ x. x < n) v.noted w.noted fits.noted theirs.noted;
       looks = All-append (IsWithin n m) v.looks w.looks fits.looks theirs.looks;
       known = All-append (IsWithin n m) v.known w.known fits.known theirs.known;

@@ -84,6 +84,8 @@ pub record Fits (opened next mark keeper by : ℕ) (v : View) : Type 0 where
   pub drawn : All (λ x. x < next) v.drawn
   -- the counter has not gone below what a draw here left in it
   pub raised : All (λ x. x ≤ next) v.raised
+  -- nor below where this seat found it
+  pub counters : All (λ x. x ≤ next) v.counters
   -- each word that was drawn where this seat was split off is below the counter
   pub noted : All (λ x. x < next) v.noted
   -- each mark seen is at most the mark, and each word seen in the counter at most the counter
@@ -146,6 +148,7 @@ nobody =
       parts = 0;
       drawn = [];
       raised = [];
+      counters = [];
       noted = [];
       looks = [];
       known = [];
@@ -197,9 +200,18 @@ promise_of v = record nobody { promised = max v.owes (above_last v.looks) }
 abbrev pub mark_of : View → View
 mark_of v = record nobody { marked = v.mark }
 
--- what a seat knows that is split off a drawer's to tell what was drawn there, or noted. It never draws
+-- what a seat knows that is split off a drawer's to tell what was drawn and seen there, noted or known, and where it was told that the counter was.
+-- It never draws
 abbrev pub draws_of : View → View
-draws_of v = record nobody { noted = v.noted ++ v.drawn }
+draws_of v = record nobody { noted = v.noted ++ v.drawn; known = v.known ++ v.looks; informed = v.informed }
+
+-- a seat that watches the counter knows nothing at first, and never draws
+abbrev pub watch_of : View → View
+watch_of v = nobody
+
+-- what a seat knows that is split off one which watches the counter, to tell where that was. It never draws
+abbrev pub counters_of : View → View
+counters_of v = record nobody { informed = v.counters }
 
 -- what a seat knows that is split off the keeper's to tell where the counter was moved to. It never draws
 abbrev pub moves_of : View → View
@@ -216,6 +228,7 @@ both v w = record {
   parts = v.parts + w.parts;
   drawn = v.drawn ++ w.drawn;
   raised = v.raised ++ w.raised;
+  counters = v.counters ++ w.counters;
   noted = v.noted ++ w.noted;
   looks = v.looks ++ w.looks;
   known = v.known ++ w.known;
@@ -243,9 +256,13 @@ lifting v mark = record v { mark = mark; lifted = true }
 abbrev pub advancing : View → ℕ → ℕ → View
 advancing v from to = record v { advances = v.advances ++ (from, to) ∷ []; lifted = false; promised = to }
 
--- what the keeper was told to have been drawn is forgotten
+-- what a seat was told is forgotten
 abbrev pub forgetting : View → View
-forgetting v = record v { noted = [] }
+forgetting v = record v { noted = []; known = []; informed = [] }
+
+-- that, too, and the word that was found in the counter is noted
+abbrev pub counting : View → ℕ → View
+counting v found = record (forgetting v) { counters = v.counters ++ found ∷ [] }
 
 -- The seat's last look was at the counter, where it found this word, and the one before at a mark above that
 pub record IsLastSeen (word : ℕ) (v : View) : Type 0 where
@@ -295,9 +312,14 @@ module _ {S : Type 0} where
   abbrev pub Advances : Step S → Me S View → ℕ → Me S View → Type 0
   Advances st v found w = w ≡ (advancing v.0 found st.first, v.1)
 
-  -- a load of the counter: what the keeper was told to have been drawn is below its mark, and forgotten then
+  -- a load of the counter by the keeper: its mark is over what it was told, which is forgotten then
   abbrev pub Bounds : Step S → Me S View → ℕ → Me S View → Type 0
-  Bounds st v found w = (w ≡ (forgetting v.0, v.1)) × All (λ x. x < v.0.mark) v.0.noted
+  Bounds st v found w = (w ≡ (forgetting v.0, v.1)) × IsOver v.0.mark v.0
+
+  -- a load of the counter by a seat that watches it: the word found is over all that the seat was told, and not below those that it found before. It is
+  -- noted, and what the seat was told is forgotten
+  abbrev pub Counts : Step S → Me S View → ℕ → Me S View → Type 0
+  Counts st v found w = (w ≡ (counting v.0 found, v.1)) × IsOver found v.0 × All (λ x. x ≤ found) v.0.counters
 
 -- a seat that keeps the mark, isn't moving, has no parts, has drawn and seen nothing, and owes nothing; each of its advances went to SEQ 0
 pub record OnlyKeeps (v : View) : Type 0 where
@@ -320,6 +342,20 @@ pub record OnlyDraws (v : View) : Type 0 where
   pub advances : v.advances ≡ []
   pub unspent : seq_of (v.owes - 1) < 2 ^ 24
   pub marked : v.owes ≤ v.marked
+
+-- a seat that keeps no mark, never draws, has no parts, and knows nothing but what it found in the counter
+pub record OnlyWatches (v : View) : Type 0 where
+  pub keeps : v.keeps ≡ false
+  pub draws : v.draws ≡ false
+  pub advances : v.advances ≡ []
+  pub parts : v.parts ≡ 0
+  pub drawn : v.drawn ≡ []
+  pub raised : v.raised ≡ []
+  pub noted : v.noted ≡ []
+  pub looks : v.looks ≡ []
+  pub known : v.known ≡ []
+  pub informed : v.informed ≡ []
+  pub owes : v.owes ≡ 0
 
 -- no two places of the drawn lists, of one seat or of two, hold one word
 abbrev pub DrawnOnce : List View → Type 0

@@ -59,6 +59,11 @@ pub record KeeperView : Type 0 where
   pub mark : ℕ
   pub advances : List (ℕ × ℕ)
 
+-- A seat that watches the counter: at which words, and what it found there, in order
+pub record WatcherView : Type 0 where
+  pub which : TableId
+  pub counters : List ℕ
+
 -- The two words when no seat is left, and what the seats told
 pub record ClosedView : Type 0 where
   pub next : ℕ
@@ -75,11 +80,6 @@ pub record IsAbove (v : DrawerView) (word : ℕ) : Type 0 where
   pub looks : All (IsPast word) v.looks
   pub known : All (IsPast word) v.known
   pub informed : All (λ x. x ≤ word) v.informed
-
--- the word is above all that was drawn at the seat, and all that had been drawn before it was split off
-pub record IsBelow (v : DrawerView) (word : ℕ) : Type 0 where
-  pub drawn : All (λ x. x < word) v.drawn
-  pub noted : All (λ x. x < word) v.noted
 
 -- the list begins with these looks
 pub record IsPrefix (front list : List Look) : Type 0 where

@@ -6,7 +6,8 @@
 //! - `looks`: what a seat notes of what it saw
 //! - `miss`: why a draw gave no number
 //! - `dry`: that the counter had reached the mark, for which one refill may be asked
-//! - `drawer`, `keeper`, `closed`: a seat that draws, the one seat that moves the mark, and what the words held at the end
+//! - `drawer`, `keeper`, `watcher`, `closed`: a seat that draws, the one seat that moves the mark, one that looks at the counter, and what the words
+//!   held at the end
 //! - `numbers`: the two words, with all calls
 //! - `laws`: what follows from the rule
 //!
@@ -28,6 +29,7 @@ mod looks;
 mod miss;
 mod numbers;
 mod rule;
+mod watcher;
 pub mod word;
 
 pub use closed::Closed;
@@ -37,3 +39,4 @@ pub use keeper::Keeper;
 pub use looks::Look;
 pub use miss::{DrawStop, Miss};
 pub use numbers::Numbers;
+pub use watcher::Watcher;

@@ -6,7 +6,7 @@ ghost use Rattle.mesh_base.specs.Pairs.{word_of};
 ghost use Rattle.seq_word.specs.Word.{seq_of, IsWord};
 ghost use Rattle.seq_word.specs.declared.looks.Look.TheVariants as saw;
 ghost use Rattle.seq_word.specs.Rule.{IsEndOf, IsWithin, times, once_below, passed_over};
-ghost use Rattle.seq_word.specs.Seen.{fresh, IsAbove, IsBelow, IsEndAbove, IsPrefix, Finds, IsFoundBy, HasCause, SameDrawn, AfterLost, miss_of, split_from, went_to};
+ghost use Rattle.seq_word.specs.Seen.{fresh, IsAbove, IsEndAbove, IsPrefix, Finds, IsFoundBy, HasCause, SameDrawn, AfterLost, last_word, miss_of, split_from, went_to};
 
 use crate::closed::Closed;
 use crate::drawer::Drawer;
@@ -14,9 +14,10 @@ use crate::dry::Dry;
 use crate::keeper::Keeper;
 use crate::miss::{DrawStop, Miss};
 use crate::rule::{
-    Advances, Bounds, COUNTER, Draws, Informs, Lifts, MARK, Opening, Opens, Promises, Publishes,
-    Seats, SeesMark, SeesNext, Shows, Tells, Words,
+    Advances, Bounds, COUNTER, Counts, Draws, Informs, Lifts, MARK, Opening, Opens, Promises,
+    Publishes, Recalls, Seats, SeesMark, SeesNext, Shows, Tells, Watches, Words,
 };
+use crate::watcher::Watcher;
 use crate::word::{BLOCK, SPENT_SEQ, WORDS_PER_IV, pair_of};
 use atomic_table::Table;
 use mesh_base::pair::Pair;
@@ -202,15 +203,15 @@ impl Numbers {
     }
 
     /// Tells a seat that draws where the keeper has moved the counter to so far: what it draws from now on isn't below that (`above` of `draw`), and
-    /// what it has drawn, or noted, is below the keeper's mark (`below`). It takes no memory, and changes neither word: all that runs is five loads of
-    /// the counter, whose words nothing uses.
+    /// the keeper's mark is above what it has drawn, or noted, and not below where it saw the counter, or was told that it is (`below`). It takes no
+    /// memory, and changes neither word: all that runs is five loads of the counter, whose words nothing uses.
     pub fn inform(&self, k: &mut Keeper, d: &mut Drawer)
         requires made { k.old.which ≡ self.now.which }
         requires drawer_made { d.old.which ≡ self.now.which }
 
         ensures keeper { k.new ≡ k.old }
         ensures informed { d.new ≡ record d.old { informed = d.old.informed ++ went_to k.old.advances } }
-        ensures below { IsBelow d.old k.old.mark }
+        ensures below { IsAbove d.old k.old.mark }
     {
         let words = &self.table.shared;
         let shown = words.split_seat::<Shows>(&mut d.seat);
@@ -218,6 +219,39 @@ impl Numbers {
         let _ = words.load::<Bounds>(&mut k.seat, COUNTER);
         let seat = words.split_seat::<Informs>(&mut k.seat);
         words.join_seat::<Seats>(&mut d.seat, seat);
+    }
+
+    /// A seat that watches the counter, and found nothing yet. It takes no memory.
+    pub fn watcher(&self, d: &mut Drawer) -> Watcher
+        requires made { d.old.which ≡ self.now.which }
+
+        ensures value { result ≡ record { which = self.now.which; counters = [] } }
+        ensures drawer { d.new ≡ d.old }
+    {
+        Watcher {
+            seat: self.table.shared.split_seat::<Watches>(&mut d.seat),
+        }
+    }
+
+    /// Looks at the counter, and tells a seat that draws where it is (`informed`): what it draws from now on isn't below that (`above` of `draw`), and
+    /// what it has drawn, or noted, is (`above`). Nor is it below where the counter was before (`rise`). It takes no memory, and changes neither word:
+    /// all that runs is five loads of the counter, whose words nothing uses.
+    pub fn watch(&self, w: &mut Watcher, d: &mut Drawer)
+        requires made { w.old.which ≡ self.now.which }
+        requires drawer_made { d.old.which ≡ self.now.which }
+
+        ensures watcher { w.new
+            ≡ record w.old { counters = w.old.counters ++ last_word w.new.counters ∷ [] } }
+        ensures rise { All (λ x. x ≤ last_word w.new.counters) w.old.counters }
+        ensures above { IsAbove d.old (last_word w.new.counters) }
+        ensures informed { d.new ≡ record d.old { informed = d.old.informed ++ w.new.counters } }
+    {
+        let words = &self.table.shared;
+        let shown = words.split_seat::<Shows>(&mut d.seat);
+        words.join_seat::<Seats>(&mut w.seat, shown);
+        let _ = words.load::<Counts>(&mut w.seat, COUNTER);
+        let counters = words.split_seat::<Recalls>(&mut w.seat);
+        words.join_seat::<Seats>(&mut d.seat, counters);
     }
 
     /// A new seat. What it draws is above all that this one has drawn so far, and not below what this one has seen. It takes one of this one's

@@ -1,6 +1,6 @@
 //! The rule of the two words, as `atomic_table` takes it. The definitions stand in `specs/Rule.antt`.
 //!
-//! There are thirteen kinds of atomic step. Each changes the view of the seat that takes it, and a join that of the other seat too.
+//! There are sixteen kinds of atomic step. Each changes the view of the seat that takes it, and a join that of the other seat too.
 //!
 //! | Step | Seat | What its view notes |
 //! |---|---|---|
@@ -13,8 +13,11 @@
 //! | a split | a drawer | it has one part less; the new seat has that, notes all that was drawn here, or noted, and knows the looks here, or known. At the start the keeper's seat hands all its parts to the first drawer |
 //! | a split of a promise | a drawer | that it owes the word above the one that it found in the counter last; the new seat knows that this is promised, and can't draw |
 //! | a split of the mark | the keeper | nothing; the new seat knows that the mark isn't below this one, and can't draw |
-//! | a split of the draws | a drawer | nothing; the new seat notes all that was drawn here, or noted, and can't draw |
-//! | a load of the counter | the keeper | that it forgets what it was told to have been drawn, all of which is below its mark |
+//! | a split of the draws | a drawer | nothing; the new seat notes all that was drawn here, or noted, knows all that was seen here, or known, and where it was told that the counter was, and can't draw |
+//! | a load of the counter | the keeper | that it forgets what it was told of the draws, over all of which its mark is |
+//! | a split of a watcher | a drawer | nothing; the new seat knows nothing, and can't draw |
+//! | a load of the counter | a watcher | the word, which is over all that it was told of the draws, and not below those that it found before; and that it forgets what it was told |
+//! | a split of the counters | a watcher | nothing; the new seat knows where the counter was, and can't draw |
 //! | a split of the moves | the keeper | nothing; the new seat knows where the counter was moved to, and can't draw |
 //! | a join | a drawer, or the keeper | all that the other seat knows, and its parts; at the end also the keeper's mark. The other seat is left knowing nothing |
 #![tactic(auto)]
@@ -48,6 +51,8 @@ pub struct View {
     pub drawn: LinkedList<u64>,
     /// What each of these draws left in the counter.
     pub raised: LinkedList<u64>,
+    /// What a seat that watches the counter found there, in order.
+    pub counters: LinkedList<u64>,
     /// The words that had been drawn at the seat from which this one was split off, or were noted there.
     pub noted: LinkedList<u64>,
     /// The looks at the two words, in their order.
@@ -148,6 +153,15 @@ impl Play<u8, View> for Bounds {
     ghost then = { rule.Bounds };
 }
 
+/// A load of the counter by a seat that watches it.
+pub struct Counts;
+
+impl Play<u8, View> for Counts {
+    ghost use Rattle.seq_word.specs.Rule as rule;
+
+    ghost then = { rule.Counts };
+}
+
 /// How the first drawer's seat is cut off the keeper's.
 pub struct Opens;
 
@@ -181,7 +195,7 @@ impl Split<View> for Tells {
     ghost right = { mark_of };
 }
 
-/// How a seat that tells what was drawn is cut off a drawer's.
+/// How a seat that tells what was drawn and seen is cut off a drawer's.
 pub struct Shows;
 
 impl Split<View> for Shows {
@@ -201,6 +215,28 @@ impl Split<View> for Informs {
     ghost left = { λ v. v };
 
     ghost right = { moves_of };
+}
+
+/// How a seat that watches the counter is cut off a drawer's.
+pub struct Watches;
+
+impl Split<View> for Watches {
+    ghost use Rattle.seq_word.specs.Rule.{watch_of};
+
+    ghost left = { λ v. v };
+
+    ghost right = { watch_of };
+}
+
+/// How a seat that tells where the counter was is cut off a watcher's.
+pub struct Recalls;
+
+impl Split<View> for Recalls {
+    ghost use Rattle.seq_word.specs.Rule.{counters_of};
+
+    ghost left = { λ v. v };
+
+    ghost right = { counters_of };
 }
 
 /// How drawers' seats are cut in two, and how seats are put together.

@@ -7,7 +7,7 @@ use Rattle.locked_node.proofs.node.Node.arm.Goals as goal
 pub invariant_of-self : goal.invariant_of-self
 invariant_of-self g c =
     let held = c.deref_mut.result.now in
-    let h = subst (λ x. Holds g.M.Machine.stands g.M.Machine.view g.F.Flash.chip x.machine x.start x.flash x.stops) (sym c.deref_mut.ensures.value) c.self.invariant in
+    let h = subst (λ x. Holds g.M.Machine.stands g.M.Machine.view g.F.Flash.chip x.machine x.watcher x.start x.flash x.stops) (sym c.deref_mut.ensures.value) c.self.invariant in
     let first = found_of (g.F.Flash.chip held.start) in
     let life = c.tells.ensures.known first held.flash h.over held.machine h.tie in
     let kept = c.arm.ensures.frame in
@@ -38,4 +38,6 @@ invariant_of-self g c =
       };
       asked = h.asked;
       taken = h.taken;
+      watches = h.watches;
+      counted = h.counted;
     }

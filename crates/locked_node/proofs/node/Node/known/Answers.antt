@@ -19,6 +19,7 @@ returns-clause-known g c =
       later = h.later;
       asked = h.asked;
       taken = h.taken;
+      counted = h.counted;
     })
 
 pub returns-clause-stands : goal.returns-clause-stands
@@ -36,4 +37,4 @@ pub returns-clause-few : goal.returns-clause-few
 returns-clause-few g c =
     let h = c.self.invariant in
     let life = c.tells.ensures.known (found_of (g.F.Flash.chip c.self.inside.held.value.start)) c.self.inside.held.value.flash h.over c.self.inside.held.value.machine h.tie in
-    subst (λ v. length (node_marks v) < 2 ^ 64) c.self.view_is (few_marks _ _ _ _ life.few h.few)
+    subst (λ v. length (node_marks v) < 2 ^ 64) c.self.view_is (few_marks _ _ _ _ _ life.few h.few)

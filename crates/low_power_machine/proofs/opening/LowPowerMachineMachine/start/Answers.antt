@@ -42,6 +42,7 @@ returns-in-Ok-clause-ok g c =
       runs = node.runs;
       state = says.state ∙ ap (λ (x : Config). x.iv) node.node.meaning.config;
       mark = says.mark ∙ ap (λ (x : Config). x.mark) node.node.meaning.config;
+      published = says.published ∙ ap (λ (s : StoreView). s.persist.mark) says.store ∙ ap (λ (x : Config). x.mark) node.node.meaning.config;
       tie = subst (λ (v : LowPowerNode). Stands (found_of old) new node.over v) (sym says.machine) base;
       no_fault = c.in_ok-store.ensures.no_fault;
       entries = ap (λ (v : LowPowerNode). v.entries) says.machine;

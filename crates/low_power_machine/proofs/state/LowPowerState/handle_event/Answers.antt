@@ -123,7 +123,7 @@ invariant_of-self-2 g c e =
 pub returns-clause-risen : goal.returns-clause-risen
 returns-clause-risen g c =
     let k : KeeperView = c.store_records.new.reserve.keeper in
-    subst (λ (v : LowPowerNode). (k.advances ≡ v.reserve.keeper.advances) ⊎ (k.mark ≡ last_word (went_to k.advances))) c.self.view_is
+    subst (λ (v : LowPowerNode). ((k.advances ≡ v.reserve.keeper.advances) × (k.mark ≡ v.reserve.keeper.mark)) ⊎ (k.mark ≡ last_word (went_to k.advances))) c.self.view_is
     (risen_so c.self.inside.reserve.keeper k c.in-Ok.ensures.risen)
 
 pub returns-clause-jobs : goal.returns-clause-jobs

@@ -91,7 +91,7 @@ pub returns-in-Ok-clause-risen : goal.returns-in-Ok-clause-risen
 returns-in-Ok-clause-risen g c =
     let i = c.self.inside in
     let k : KeeperView = c.handle.new.parts.reserve.keeper in
-    subst (λ (v : NodeMachine). (k.advances ≡ v.reserve.keeper.advances) ⊎ (k.mark ≡ last_word (went_to k.advances))) c.self.view_is
+    subst (λ (v : NodeMachine). ((k.advances ≡ v.reserve.keeper.advances) × (k.mark ≡ v.reserve.keeper.mark)) ⊎ (k.mark ≡ last_word (went_to k.advances))) c.self.view_is
     (risen_so i.parts.reserve.keeper k c.in-Ok.ensures.done.stored.risen)
 
 pub returns-in-Ok-clause-jobs : goal.returns-in-Ok-clause-jobs

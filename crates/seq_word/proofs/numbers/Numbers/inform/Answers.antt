@@ -1,7 +1,8 @@
-use Rattle.std.proofs.Common.{◌≡◌, ◌<◌, ◌++◌, ◌||◌, sym, ap, ◌∙◌, subst, arith}
-use Rattle.std.specs.Prelude.{All}
-use Rattle.seq_word.specs.Rule.{both}
-use Rattle.seq_word.proofs.Moves.{all_of_both, shows, bounds, informs, joins}
+use Rattle.std.proofs.Common.{◌≡◌, ◌||◌, sym, ap, ◌∙◌, subst, arith}
+use Rattle.seq_word.specs.Rule.{IsOver, both, draws_of}
+use Rattle.seq_word.specs.Seen.{IsAbove}
+use Rattle.seq_word.proofs.Moves.{bounds, informs, joins, shows}
+use Rattle.seq_word.proofs.Shown.{shown_above}
 use Rattle.seq_word.proofs.numbers.Numbers.inform.Goals as goal
 
 pub split_seat-shown-requires : goal.split_seat-shown-requires
@@ -34,18 +35,12 @@ join_seat-requires-2 c =
     let told = c.split_seat-seat.ensures in
     (own, told.3 ∙ keepers, ap (λ m. m.1) told.4, omega (arith, c.self.invariant.0), joins _ _ _ _ _)
 
--- what the keeper was told to have been drawn or noted is below its mark
+-- the keeper's mark is over what it was told
 pub returns-clause-below : goal.returns-clause-below
 returns-clause-below c =
     let v = c.k.inside.seat.me.0 in
     let d = c.d.inside.seat.me.0 in
-    let shown = ap (λ m. m.0) c.split_seat-shown.ensures.4 in
     let met = c.join_seat.new.seat.me.0 in
-    let mark : met.mark ≡ c.args.k.now.mark = ap (λ m. m.0.mark) c.join_seat.ensures.2 ∙ ap (λ w. (both v w).mark) shown ∙ ap (λ k. k.mark) c.k.view_is in
-    let noted : met.noted ≡ d.noted ++ d.drawn = ap (λ m. m.0.noted) c.join_seat.ensures.2 ∙ ap (λ w. (both v w).noted) shown ∙ ap (λ l. l ++ (d.noted ++ d.drawn)) c.k.invariant.0.noted in
-    let bound : All (λ x. x < c.args.k.now.mark) (d.noted ++ d.drawn) = subst (λ m. All (λ x. x < m) (d.noted ++ d.drawn)) mark (subst (All (λ x. x < met.mark)) noted c.load.ensures.2.1) in
-    let each = all_of_both (λ x. x < c.args.k.now.mark) d.noted d.drawn bound in
-    record {
-      drawn = subst (λ y. All (λ x. x < c.args.k.now.mark) y.drawn) c.d.view_is each.1;
-      noted = subst (λ y. All (λ x. x < c.args.k.now.mark) y.noted) c.d.view_is each.0;
-    }
+    let is : met ≡ both v (draws_of d) = ap (λ m. m.0) c.join_seat.ensures.2 ∙ ap (λ m. both v m.0) c.split_seat-shown.ensures.4 in
+    let mark : met.mark ≡ c.args.k.now.mark = ap (λ w. w.mark) is ∙ ap (λ k. k.mark) c.k.view_is in
+    subst (λ y. IsAbove y c.args.k.now.mark) c.d.view_is (shown_above _ v d met c.args.k.now.mark is (subst (λ x. IsOver x met) mark c.load.ensures.2.1))
