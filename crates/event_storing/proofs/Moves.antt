@@ -1,6 +1,6 @@
 -- What a record does to the mark and the counter, and the state that it says.
 use Rattle.std.proofs.Common.{◌≡◌, ℕ, ◌<◌, ◌≤◌, Bool, true, false, refl, List, [], ◌∷◌, ◌++◌, ap, ◌∙◌, sym, subst, ⊎_elim, inl, inr, arith, Option, Some, None, append_assoc}
-use Rattle.std.specs.Prelude.{fold, map, nat_lt, if◌then◌else◌, Result, Ok, Err, OnOk}
+use Rattle.std.specs.Prelude.{fold, map, nat_lt, if◌then◌else◌, Result, Ok, Err, OnErr, OnOk}
 use Rattle.std.proofs.lemmas.Bool.Decides.{nat_tests}
 use Rattle.std.proofs.lemmas.List.{append-nil, map-append}
 use Rattle.std.proofs.lemmas.List.Sums.{fold-append}
@@ -134,6 +134,11 @@ module _ {T E : Type 0} (r : Result T E) (c : Config) (old new : KeeperView) whe
     by_test : (b : Bool) → nat_lt (transmit_of c.iv) (transmit_of to) ≡ b → OnOk r (HasRisen old new)
     by_test true e = on_ok_by _ _ at_last (goes (is_less (transmit_of c.iv) (transmit_of to) e))
     by_test false e = on_ok_all _ (inl (stays (not_less (transmit_of c.iv) (transmit_of to) up e)))
+
+-- of a refusal
+module _ {T E : Type 0} (r : Result T E) where
+  pub on_err_by : (P Q : Type 0) → (P → Q) → OnErr r P → OnErr r Q
+  on_err_by P Q f = (elim r as (λ (s : Result T E). OnErr s P → OnErr s Q) [ Ok x ↦ λ h. tt | Err e ↦ λ h. f h ])
 
 -- one record more
 advances_push : (c : Config) (items : List StoreRecord) (item : StoreRecord)

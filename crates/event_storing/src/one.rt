@@ -1,7 +1,7 @@
 //! One record is put.
 #![tactic(auto)]
 
-ghost use Rattle.std.specs.Prelude.{◌≡◌, ◌+◌, List, [], ◌∷◌, ◌++◌, false, OnOk};
+ghost use Rattle.std.specs.Prelude.{◌≡◌, ◌+◌, List, [], ◌∷◌, ◌++◌, false, OnErr, OnOk};
 ghost use Rattle.flash_model.specs.Chip.{count_of};
 ghost use Rattle.event_records.specs.Putting.{IsMove};
 ghost use Rattle.event_storing.specs.Storing.{HasRisen, advance_to, moved_to, state_said};
@@ -57,6 +57,7 @@ fn put_other<F: Flash>(
     ensures fails { FailsAtFlash result KeepFault.Flash (F.chip flash.old) (F.chip flash.new) reserve.new.store }
     ensures puts { OnOk result
         (Puts (item.now ∷ []) (F.chip flash.old) (F.chip flash.new) reserve.old.store reserve.new.store) }
+    ensures refused { OnErr result (reserve.new.store.persist ≡ reserve.old.store.persist) }
     ensures used { OnOk result (reserve.new.store.journal.used ≡ used_with_room reserve.old.store + 1) }
     ensures cut { CutLeaves (λ records. IsPut records item.now) (F.chip flash.old) (F.chip flash.new) reserve.old.store }
     ensures durable { (records : List StoreRecord) → IsStoreOf (F.chip flash.old) reserve.old.store records
@@ -94,6 +95,7 @@ pub(crate) fn store_one<F: Flash>(
     ensures fails { FailsAtFlash result KeepFault.Flash (F.chip flash.old) (F.chip flash.new) reserve.new.store }
     ensures puts { OnOk result
         (Puts (item.now ∷ []) (F.chip flash.old) (F.chip flash.new) reserve.old.store reserve.new.store) }
+    ensures refused { OnErr result (reserve.new.store.persist ≡ reserve.old.store.persist) }
     ensures used { OnOk result (reserve.new.store.journal.used ≡ used_with_room reserve.old.store + 1) }
     ensures advanced { OnOk result
         (moved_to reserve.new.keeper

@@ -1,12 +1,14 @@
 //! The records of an event are put, one after another.
 #![tactic(auto)]
 
-ghost use Rattle.std.specs.Prelude.{◌≡◌, ◌≢◌, ℕ, ◌+◌, ◌*◌, ◌≤◌, List, [], ◌++◌, length, true, false, Ok, Err, OnOk};
+ghost use Rattle.std.specs.Prelude.{◌≡◌, ◌≢◌, ℕ, ◌+◌, ◌*◌, ◌≤◌, List, [], ◌++◌, length, true, false, Ok, Err, OnErr, OnOk};
 ghost use Rattle.flash_model.specs.Chip.{count_of};
 ghost use Rattle.event_records.specs.Putting.{AreMoves, ArePuttable};
 ghost use Rattle.event_storing.specs.Storing.{HasRisen, advances_of, moved_to};
+ghost use Rattle.node_records.specs.Meaning.{IsSaid};
 ghost use Rattle.node_records.specs.Tables.{config_in};
 ghost use Rattle.node_store.specs.Calls.{only_slots};
+ghost use Rattle.node_store.specs.Several.{CostsEach, CostsSome};
 ghost use Rattle.node_store.specs.Tie.{IsFront, IsStoreOf};
 ghost use Rattle.node_store.specs.Writing.{CostsCalls, CutLeaves, FailsAtFlash, LeavesFlash, OnlyAnswers, Puts};
 ghost use Rattle.record_types.specs.declared.records.StoreRecord.{StoreRecord};
@@ -16,9 +18,17 @@ ghost use Rattle.store_definitions.specs.Wear.{CostsAndUses, CostsAtMost};
 use crate::one::store_one;
 use event_records::Records;
 use flash_model::Flash;
+use node_store::Store;
 use record_types::records::StoreRecord;
 use seq_reserve::{KeepFault, Reserve};
 use seq_word::Numbers;
+
+/// That what a store says is the meaning of records in range, as a clause that a proof can cite.
+fn says(store: &Store)
+    ensures said { IsSaid store.now.persist }
+{
+    store.persist();
+}
 
 /// Puts records behind the others, one after another, where the store takes records.
 fn store_each<F: Flash>(
@@ -30,6 +40,7 @@ fn store_each<F: Flash>(
     requires made { reserve.old.keeper.which ≡ n.now.which }
     requires published { IsPublished reserve.old.store reserve.old.keeper }
     requires usable { reserve.old.store.journal.closed ≡ false }
+    requires said { IsSaid reserve.old.store.persist }
     requires may { ArePuttable reserve.old.store.persist items.now }
     requires moves { AreMoves (config_in reserve.old.store.persist) items.now }
 
@@ -44,6 +55,12 @@ fn store_each<F: Flash>(
         reserve.old.store }
     ensures durable { (records : List StoreRecord) → IsStoreOf (F.chip flash.old) reserve.old.store records
         → IsDurable (F.chip flash.new) reserve.new.keeper.mark }
+    // each record costs what a put of it does, where those before it were put
+    ensures each { OnOk result
+        (CostsEach items.now (F.chip flash.old) (F.chip flash.new) reserve.old.store reserve.new.store) }
+    // and where the flash fails, each image holds those that were put before, or one more
+    ensures some { OnErr result
+        (CostsSome items.now (F.chip flash.old) (F.chip flash.new) reserve.old.store reserve.new.store) }
     // two program calls of 32 octets together for each record where there is room for all, and else those of compactions besides
     ensures costs { reserve.old.store.journal.used + length items.now ≤ 1023
         → CostsCalls (only_slots (length items.now)) result (F.chip flash.old) (F.chip flash.new) }
@@ -101,6 +118,14 @@ pub fn store_records<F: Flash>(
         → (image : List ℕ) → (F.chip flash.new).images image → IsFront before records.now image }
     ensures durable { (before : List StoreRecord) → IsStoreOf (F.chip flash.old) reserve.old.store before
         → IsDurable (F.chip flash.new) reserve.new.keeper.mark }
+    // each record costs what a put of it does, where those before it were put
+    ensures each { reserve.old.store.journal.closed ≡ false
+        → OnOk result
+        (CostsEach records.now (F.chip flash.old) (F.chip flash.new) reserve.old.store reserve.new.store) }
+    // and where the flash fails, each image holds those that were put before, or one more
+    ensures some { reserve.old.store.journal.closed ≡ false
+        → OnErr result
+        (CostsSome records.now (F.chip flash.old) (F.chip flash.new) reserve.old.store reserve.new.store) }
     // two program calls of 32 octets together for each record where there is room for all, and else those of compactions besides
     ensures costs { reserve.old.store.journal.used + length records.now ≤ 1023
         → CostsCalls (only_slots (length records.now)) result (F.chip flash.old) (F.chip flash.new) }
@@ -121,5 +146,6 @@ pub fn store_records<F: Flash>(
     if reserve.store.is_closed() {
         return Err(KeepFault::Closed);
     }
+    says(&reserve.store);
     store_each(reserve, n, flash, records.as_slice())
 }

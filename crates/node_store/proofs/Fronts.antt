@@ -1,5 +1,5 @@
 -- Several records, one after another, over the chip before and after.
-use Rattle.std.proofs.Common.{◌≡◌, ◌⊎◌, ⊎_elim, ℕ, ◌+◌, ◌*◌, ◌<◌, ◌≤◌, List, [], ◌∷◌, ◌++◌, Bool, true, false, refl, ap, sym, subst, ◌∙◌, append_assoc, arith}
+use Rattle.std.proofs.Common.{◌≡◌, ◌⊎◌, ⊎_elim, ℕ, ◌+◌, ◌*◌, ◌<◌, ◌≤◌, List, [], ◌∷◌, ◌++◌, Bool, true, false, inl, inr, refl, ap, sym, subst, ◌∙◌, append_assoc, arith}
 use Rattle.std.specs.Prelude.{length, take, drop, fold, get_or, ◌==◌, if◌then◌else◌}
 use Rattle.std.proofs.lemmas.Bool.{eqb-true}
 use Rattle.std.proofs.lemmas.List.{append-nil, drop_more, take_all, take_more}
@@ -18,6 +18,7 @@ use Rattle.node_store.specs.Calls.{calls_of, compaction, only_slots, used_with_r
 use Rattle.node_store.specs.Several.{CostsEach, CostsSome, IsNext, IsSumOf, MayPut, and_then, none_put, one_more}
 use Rattle.node_store.specs.Tie.{HasMarkFrom, Holds, IsFront, IsHeld, IsNotBelow, IsPut, IsStoreOf}
 use Rattle.node_store.specs.View.{StoreView}
+use Rattle.node_store.specs.Writing.{CutLeaves}
 use Rattle.node_store.proofs.Follows.{mark_before, mark_from}
 use Rattle.node_store.proofs.Holding.{holds_mark, store_images, store_meaning}
 
@@ -214,9 +215,12 @@ module _ (items : List StoreRecord) (i : ℕ) (d : StoreRecord) (less : i < leng
   }
 
 -- one that failed
-module _ (items : List StoreRecord) (i : ℕ) (less : i < length items) (start mid new : Chip) (first store last : StoreView) (so : CostsEach (take i items) start mid first store) where
-  pub each_some : last.persist ≡ store.persist → BeginsAtMost (calls_of store).calls mid new → ErasesAtMost (calls_of store).erases mid new → ProgramsAtMost (calls_of store).octets mid new → CostsSome items start new first last
-  each_some says calls erases octets =
+module _ (items : List StoreRecord) (i : ℕ) (d : StoreRecord) (less : i < length items) (start mid new : Chip) (first store last : StoreView) (so : CostsEach (take i items) start mid first store) where
+  pub each_some : ((records : List StoreRecord) → IsStoreOf start first records → Fronts start first records items i mid store)
+      → CutLeaves (λ records. IsPut records (get_or items i d)) mid new store
+      → ((c : List ℕ) → mid.moment ≤ new.moment → new.images c → new.since mid.moment c)
+      → last.persist ≡ store.persist → BeginsAtMost (calls_of store).calls mid new → ErasesAtMost (calls_of store).erases mid new → ProgramsAtMost (calls_of store).octets mid new → CostsSome items start new first last
+  each_some fronts cut counts says calls erases octets =
       let called = so.calls in
       let erased = so.erases in
       let given = so.octets in
@@ -230,6 +234,12 @@ module _ (items : List StoreRecord) (i : ℕ) (less : i < length items) (start m
         most_calls = omega (arith, called, calls);
         most_erases = omega (arith, erased, erases);
         most_octets = omega (arith, given, octets);
+        held = λ records tie c image.
+            let leaves : LeavesOnly mid new (IsPut (records ++ take i items) (get_or items i d)) = cut.any_moment (records ++ take i items) (fronts records tie).tie in
+            ⊎_elim
+            (λ h. inl h)
+            (λ h. inr (subst (λ (l : List StoreRecord). Holds c l) (records_more items i d less records) h))
+            (leaves.each c (counts c leaves.later image)).either;
       }
 
 -- at the end all are put

@@ -1,5 +1,5 @@
 -- Several records that are put one after another: whether they may be, and how many calls that makes.
-use Rattle.std.specs.Prelude.{◌≡◌, ⊤, ℕ, ◌+◌, ◌<◌, List, [], ◌∷◌, ◌++◌, length, take}
+use Rattle.std.specs.Prelude.{◌≡◌, ◌⊎◌, ⊤, ℕ, ◌+◌, ◌<◌, List, [], ◌∷◌, ◌++◌, length, take}
 use Rattle.flash_model.specs.Arming.{Begins, BeginsAtMost, Erases, ErasesAtMost, Programs, ProgramsAtMost}
 use Rattle.flash_model.specs.Chip.{CallCount, Chip}
 use Rattle.record_types.specs.declared.records.StoreRecord.{StoreRecord}
@@ -10,7 +10,7 @@ use Rattle.node_records.specs.Full.{IsFull}
 use Rattle.node_records.specs.Meaning.{IsMeaningOf, IsSaid}
 use Rattle.node_records.specs.Tables.{config_in}
 use Rattle.node_store.specs.Calls.{calls_of, only_slots, used_with_room}
-use Rattle.node_store.specs.Tie.{IsNotBelow}
+use Rattle.node_store.specs.Tie.{Holds, IsNotBelow, IsStoreOf}
 use Rattle.node_store.specs.View.{StoreView}
 
 -- a value after one record more
@@ -51,7 +51,8 @@ pub record CostsEach (items : List StoreRecord) (old new : Chip) (first last : S
   pub erases : Erases n.erases old new
   pub octets : Programs n.octets old new
 
--- At most these are begun: those of the puts of the first few, and those of a put of one more, which failed. The store says what those few left.
+-- Where the put of one failed: at most these are begun, those of the puts of the first few, which were put, and those of the one that failed. The
+-- store says what those few left. Of a store of this flash, each image holds those few behind the others, or these with the one that failed.
 pub record CostsSome (items : List StoreRecord) (old new : Chip) (first last : StoreView) : Type 0 where
   pub few : ℕ
   pub below : few < length items
@@ -62,3 +63,5 @@ pub record CostsSome (items : List StoreRecord) (old new : Chip) (first last : S
   pub most_calls : BeginsAtMost (n.calls + (calls_of left).calls) old new
   pub most_erases : ErasesAtMost (n.erases + (calls_of left).erases) old new
   pub most_octets : ProgramsAtMost (n.octets + (calls_of left).octets) old new
+  pub held : (records : List StoreRecord) → IsStoreOf old first records → (c : List ℕ) → new.images c
+      → Holds c (records ++ take few items) ⊎ Holds c (records ++ take (few + 1) items)

@@ -5,7 +5,7 @@ use Rattle.node_records.specs.Tables.{config_in}
 use Rattle.node_store.specs.Tie.{IsPut}
 use Rattle.node_store.specs.Writing.{CutLeaves, Puts}
 use Rattle.record_types.specs.declared.records.StoreRecord.{StoreRecord}
-use Rattle.event_storing.proofs.Moves.{advanced_none, advanced_some, risen_none, risen_some, said_move, said_none}
+use Rattle.event_storing.proofs.Moves.{advanced_none, advanced_some, on_err_by, risen_none, risen_some, said_move, said_none}
 use Rattle.event_storing.proofs.one.store_one.Goals as goal
 
 pub move_iv-requires-clause-transmit : goal.move_iv-requires-clause-transmit
@@ -64,6 +64,10 @@ returns-in-Some-clause-cut g c =
     let old = g.F.Flash.chip c.args.flash.now in
     let new = g.F.Flash.chip c.move_iv.new.flash in
     subst (λ (i : StoreRecord). CutLeaves (λ records. IsPut records i) old new c.args.reserve.now.store) (sym move.item_is) c.move_iv.ensures.cut
+
+pub returns-in-Some-clause-refused : goal.returns-in-Some-clause-refused
+returns-in-Some-clause-refused g c =
+    on_err_by c.move_iv.result _ _ (λ h. h.1) c.move_iv.ensures.refused
 
 pub returns-in-Some-clause-fails : goal.returns-in-Some-clause-fails
 returns-in-Some-clause-fails g c = c.move_iv.ensures.fails c.requires.usable

@@ -4,9 +4,10 @@ use Rattle.event_storing.specs.Storing.{moved_to}
 use Rattle.flash_model.specs.Chip.{count_of}
 use Rattle.flash_model.proofs.Runs.{keeps_more, keeps_none}
 use Rattle.node_records.specs.Tables.{config_in}
+use Rattle.node_records.proofs.Meanings.{said_more}
 use Rattle.node_store.proofs.Mounts.{err_of, on_err_all, on_ok_none}
 use Rattle.node_store.proofs.Puts.{puts_of}
-use Rattle.node_store.proofs.Fronts.{all_calls, all_most, all_octets, calls_at_most, calls_more, config_all, config_more, erases_at_most, front_more, fronts_more, fronts_none, marks_more, most_octets, none_erased, octets_at_most, put_none, tie_all, value_all, value_more, value_none}
+use Rattle.node_store.proofs.Fronts.{all_calls, all_most, all_octets, calls_at_most, calls_more, config_all, config_more, each_all, each_more, each_none, each_some, erases_at_most, front_more, fronts_more, fronts_none, marks_more, most_octets, none_erased, octets_at_most, put_none, tie_all, value_all, value_more, value_none}
 use Rattle.seq_reserve.specs.Reserving.{IsDurable}
 use Rattle.seq_reserve.proofs.Keeping.{durable_of}
 use Rattle.store_definitions.specs.Wear.{CostsAndUses}
@@ -26,6 +27,7 @@ loop-item-init g c =
       usable = c.requires.usable;
       published = c.requires.published;
       made = refl;
+      said = c.requires.said;
       may = c.requires.may;
       moves = c.requires.moves;
       config = refl;
@@ -35,6 +37,7 @@ loop-item-init g c =
       fronts = λ records tie. fronts_none chip reserve.store records c.args.items.now tie (laws.only_now flash);
       durable = λ records tie. subst (λ n. IsDurable chip n) (sym c.requires.published) (durable_of chip reserve.store records tie);
       calls = λ room. put_none chip reserve.store (laws.counted flash) (laws.counted_erases flash) (laws.counted_octets flash);
+      each = each_none chip reserve.store (laws.counted flash) (laws.counted_erases flash) (laws.counted_octets flash);
       wear = paid_none reserve.store.journal.used (count_of chip);
       reads = refl;
       faults = refl;
@@ -54,11 +57,13 @@ loop-item-preserved g c =
     let store = c.loop-item.reserve.store in
     let after = c.store_one.new.reserve.store in
     let may = next_may items i _ less store.persist before.may in
+    let said = said_more _ store.persist after.persist may.0 put.puts.value before.said in
     record {
       keeps = keeps_more start mid new before.keeps put.leaves.frame;
       usable = put.puts.usable;
       published = put.published;
       made = put.made ∙ before.made;
+      said = said;
       may = may.3 after.persist put.puts.change;
       moves = rest_moves items i _ less (config_in store.persist) (config_in after.persist) before.moves put.puts.change;
       config = put.puts.change ∙ config_more items i _ less (config_in store.persist) (config_in first.persist) before.config;
@@ -72,6 +77,8 @@ loop-item-preserved g c =
           fronts_more items i _ less start first records mid store fronts new after may.1 put.puts.value (put.puts.kept all fronts.tie) (put.cut.any_moment all fronts.tie) (put.cut.mark all fronts.tie);
       durable = λ records tie. put.durable (records ++ take i items) (before.fronts records tie).tie;
       calls = λ room. calls_more (length items) i start mid new first store less room (before.calls room) after put.costs.calls put.costs.erases put.costs.octets put.used;
+      each = each_more items i _ less start mid new first store before.each after
+          (record { persist = record { config = put.puts.change; value = put.puts.value; said = said }; used = put.used }) put.costs.calls put.costs.erases put.costs.octets;
       wear = paid_more first.journal.used i 1 (count_of start) (count_of mid) (count_of new) store.journal.used after.journal.used before.wear put.wear;
       reads = put.leaves.reads ∙ before.reads;
       faults = put.leaves.no_fault ∙ before.faults;
@@ -150,6 +157,18 @@ returns-in_err-store_one-clause-costs g c room =
       most_octets = octets_at_most n i start mid new first store c.loop-item-test.true room so costs.most_octets;
     }
 
+pub returns-in_err-store_one-clause-some : goal.returns-in_err-store_one-clause-some
+returns-in_err-store_one-clause-some g c =
+    let before = c.loop-item.invariant in
+    let start = g.F.Flash.chip c.args.flash.now in
+    let mid = g.F.Flash.chip c.loop-item.flash in
+    let new = g.F.Flash.chip c.store_one.new.flash in
+    let one = c.in_err-store_one.ensures in
+    on_err_all c.from_residual.result _
+    (each_some c.args.items.now c.loop-item.item-index _ c.loop-item-test.true start mid new c.args.reserve.now.store c.loop-item.reserve.store c.store_one.new.reserve.store before.each
+    before.fronts one.cut (λ image later is. g.met.F.Flash.counts_now c.store_one.new.flash _ image later is)
+    one.refused one.costs.most_calls one.costs.most_erases one.costs.most_octets)
+
 pub returns-in_err-store_one-clause-most_wear : goal.returns-in_err-store_one-clause-most_wear
 returns-in_err-store_one-clause-most_wear g c =
     let i = c.loop-item.item-index in
@@ -218,6 +237,11 @@ returns-clause-costs g c room =
       most_erases = none_erased start new so.erases;
       most_octets = most_octets n i start new all so.octets;
     }
+
+pub returns-clause-each : goal.returns-clause-each
+returns-clause-each g c =
+    each_all c.args.items.now c.loop-item.item-index (omega (arith, c.loop-item-test.false)) (g.F.Flash.chip c.args.flash.now) (g.F.Flash.chip c.loop-item.flash) c.args.reserve.now.store
+    c.loop-item.reserve.store c.loop-item.invariant.each
 
 pub returns-clause-wear : goal.returns-clause-wear
 returns-clause-wear g c =

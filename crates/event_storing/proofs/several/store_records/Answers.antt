@@ -1,10 +1,11 @@
 use Rattle.std.proofs.Common.{◌≡◌, ◌+◌, ◌≤◌, List, [], sym, subst}
-use Rattle.std.specs.Prelude.{length, OnOk}
+use Rattle.std.specs.Prelude.{length, OnErr, OnOk}
 use Rattle.flash_model.specs.Chip.{count_of}
 use Rattle.node_store.specs.Calls.{only_slots}
+use Rattle.node_store.specs.Several.{CostsEach, CostsSome}
 use Rattle.node_store.specs.Tie.{IsFront}
 use Rattle.node_store.specs.Writing.{CostsCalls, CutLeaves, Puts}
-use Rattle.node_store.proofs.Fronts.{fronts_none}
+use Rattle.node_store.proofs.Fronts.{each_none, fronts_none}
 use Rattle.node_store.proofs.Puts.{puts_none}
 use Rattle.record_types.specs.declared.records.StoreRecord.{StoreRecord}
 use Rattle.seq_reserve.specs.Reserving.{IsDurable}
@@ -44,6 +45,15 @@ returns-then-is_empty-clause-durable g c records tie =
     let chip = g.F.Flash.chip c.args.flash.now in
     subst (λ n. IsDurable chip n) (sym c.requires.published) (durable_of chip c.args.reserve.now.store records tie)
 
+pub returns-then-is_empty-clause-each : goal.returns-then-is_empty-clause-each
+returns-then-is_empty-clause-each g c usable =
+    let laws = g.met.F.Flash in
+    let flash = c.args.flash.now in
+    let chip = g.F.Flash.chip flash in
+    let store = c.args.reserve.now.store in
+    let is : c.args.records.now ≡ [] = c.is_empty.ensures.0 c.if-is_empty.true in
+    subst (λ (items : List StoreRecord). CostsEach items chip chip store store) (sym is) (each_none chip store (laws.counted flash) (laws.counted_erases flash) (laws.counted_octets flash))
+
 pub returns-then-is_empty-clause-wear : goal.returns-then-is_empty-clause-wear
 returns-then-is_empty-clause-wear g c usable =
     let chip = g.F.Flash.chip c.args.flash.now in
@@ -82,6 +92,20 @@ pub returns-clause-fronts : goal.returns-clause-fronts
 returns-clause-fronts g c records tie =
     images_by (g.F.Flash.chip c.args.flash.now) (g.F.Flash.chip c.store_each.new.flash) (IsFront records c.args.records.now)
     (λ image later is. g.met.F.Flash.counts_now c.store_each.new.flash _ image later is) ((returns-clause-cut g c).any_moment records tie)
+
+pub returns-clause-each : goal.returns-clause-each
+returns-clause-each g c usable =
+    let old = g.F.Flash.chip c.args.flash.now in
+    let new = g.F.Flash.chip c.store_each.new.flash in
+    subst (λ (items : List StoreRecord). OnOk c.store_each.result (CostsEach items old new c.args.reserve.now.store c.store_each.new.reserve.store))
+    c.as_slice.ensures.value c.store_each.ensures.each
+
+pub returns-clause-some : goal.returns-clause-some
+returns-clause-some g c usable =
+    let old = g.F.Flash.chip c.args.flash.now in
+    let new = g.F.Flash.chip c.store_each.new.flash in
+    subst (λ (items : List StoreRecord). OnErr c.store_each.result (CostsSome items old new c.args.reserve.now.store c.store_each.new.reserve.store))
+    c.as_slice.ensures.value c.store_each.ensures.some
 
 pub returns-clause-costs : goal.returns-clause-costs
 returns-clause-costs g c =

@@ -127,7 +127,9 @@ returns-in_err-put-clause-some g c open_before =
     let new = g.F.Flash.chip c.put.new.flash in
     let costs = c.in_err-put.ensures.costs in
     on_err_all c.from_residual.result _
-    (each_some c.args.items.now c.loop-item.item-index c.loop-item-test.true start mid new c.args.self.now c.loop-item.self c.put.new.self c.loop-item.invariant.each c.in_err-put.ensures.refused costs.most_calls costs.most_erases costs.most_octets)
+    (each_some c.args.items.now c.loop-item.item-index _ c.loop-item-test.true start mid new c.args.self.now c.loop-item.self c.put.new.self c.loop-item.invariant.each
+    c.loop-item.invariant.fronts c.in_err-put.ensures.cut (λ image later is. g.met.F.Flash.counts_now c.put.new.flash _ image later is)
+    c.in_err-put.ensures.refused costs.most_calls costs.most_erases costs.most_octets)
 
 pub returns-in_err-put-clause-bounded : goal.returns-in_err-put-clause-bounded
 returns-in_err-put-clause-bounded g c =
