@@ -17,7 +17,7 @@ use Rattle.turn_lock.specs.Entries.{added}
 use Rattle.turn_lock.proofs.Kept.{kept_at}
 use Rattle.locked_node.specs.declared.marks.Mark.{Mark}
 use Rattle.locked_node.specs.declared.marks.Mark.TheVariants as M
-use Rattle.locked_node.specs.Node.{NodeView, event_in, handled_marks, node_marks, stop_marks}
+use Rattle.locked_node.specs.Node.{NodeView, event_in, handled_marks, node_marks, rest_words, stop_marks}
 use Rattle.node_bearer.specs.Did.{AreMarksAt, BearerOf, Broke, IsNext}
 use Rattle.node_bearer.proofs.Lists.{get_longer}
 use Rattle.node_phase.specs.declared.bearers.Done.{Done}
@@ -39,7 +39,7 @@ get_shift [] ys m = ap (slice_get ys) (omega arith)
 get_shift (x ∷ xs) ys m = let one : suc (length xs) + m ≡ suc (length xs + m) = omega arith in ap (slice_get (x ∷ (xs ++ ys))) one ∙ get_shift xs ys m
 
 abbrev has_event : ℕ × Mark → Bool
-has_event (at, M.Handled e move) = false
+has_event (at, M.Handled e behind) = false
 has_event (at, M.Stopped None) = false
 has_event (at, M.Stopped (Some event)) = true
 
@@ -47,12 +47,11 @@ no_event : (own : List (ℕ × Mark)) (ps : List Placed) → AreMarksAt own ps �
 no_event [] [] h = refl
 no_event [] (p ∷ ps) h = absurd h
 no_event (x ∷ own) [] h = absurd h
-no_event (x ∷ own) (p ∷ ps) (move, is, rest) = ap (λ y. filter has_event (y ∷ own)) is ∙ no_event own ps rest
+no_event (x ∷ own) (p ∷ ps) (behind, is, rest) = ap (λ y. filter has_event (y ∷ own)) is ∙ no_event own ps rest
 
-some_event : (n : ℕ) (es : List Entry) (ms : List ℕ) (k : ℕ) (event : Event) → filter has_event (enumerate_from n (handled_marks es ms ++ stop_marks (suc k) (Some event))) ≡ [] → ⊥
-some_event n [] ms k event h = cc
-some_event n (e ∷ es) [] k event h = some_event (n + 1) es [] k event h
-some_event n (e ∷ es) (m ∷ ms) k event h = some_event (n + 1) es ms k event h
+some_event : (n : ℕ) (es : List Entry) (ms cs : List ℕ) (k : ℕ) (event : Event) → filter has_event (enumerate_from n (handled_marks es ms cs ++ stop_marks (suc k) (Some event))) ≡ [] → ⊥
+some_event n [] ms cs k event h = cc
+some_event n (e ∷ es) ms cs k event h = some_event (n + 1) es (rest_words ms) (rest_words cs) k event h
 
 none_later : (n k at : ℕ) (event : Event) → Contains (enumerate_from n (replicate k (M.Stopped None))) (at, M.Stopped (Some event)) → ⊥
 none_later n zero at event (j, lt, e) = absurd (omega (arith, lt))
@@ -60,17 +59,15 @@ none_later n (suc k) at event (zero, lt, e) = true≢false (sym (ap has_event e)
 none_later n (suc k) at event (suc j, lt, e) = none_later (n + 1) k at event (j, omega (arith, lt), e)
 
 abbrev event_of : Mark → Option Event
-event_of (M.Handled e move) = None
+event_of (M.Handled e behind) = None
 event_of (M.Stopped hand) = hand
 
-one_event : (n : ℕ) (es : List Entry) (ms : List ℕ) (k : ℕ) (event other : Event) (at : ℕ) → Contains (enumerate_from n (handled_marks es ms ++ stop_marks k (Some event))) (at, M.Stopped (Some other)) → other ≡ event
-one_event n [] ms zero event other at (j, lt, e) = absurd (omega (arith, lt))
-one_event n [] ms (suc k) event other at (zero, lt, e) = let same : Some event ≡ Some other = ap (λ x. event_of x.1) e in cc
-one_event n [] ms (suc k) event other at (suc j, lt, e) = absurd (none_later (n + 1) k at other (j, omega (arith, lt), e))
-one_event n (x ∷ es) [] k event other at (zero, lt, e) = absurd (true≢false (sym (ap has_event e)))
-one_event n (x ∷ es) [] k event other at (suc j, lt, e) = one_event (n + 1) es [] k event other at (j, omega (arith, lt), e)
-one_event n (x ∷ es) (m ∷ ms) k event other at (zero, lt, e) = absurd (true≢false (sym (ap has_event e)))
-one_event n (x ∷ es) (m ∷ ms) k event other at (suc j, lt, e) = one_event (n + 1) es ms k event other at (j, omega (arith, lt), e)
+one_event : (n : ℕ) (es : List Entry) (ms cs : List ℕ) (k : ℕ) (event other : Event) (at : ℕ) → Contains (enumerate_from n (handled_marks es ms cs ++ stop_marks k (Some event))) (at, M.Stopped (Some other)) → other ≡ event
+one_event n [] ms cs zero event other at (j, lt, e) = absurd (omega (arith, lt))
+one_event n [] ms cs (suc k) event other at (zero, lt, e) = let same : Some event ≡ Some other = ap (λ x. event_of x.1) e in cc
+one_event n [] ms cs (suc k) event other at (suc j, lt, e) = absurd (none_later (n + 1) k at other (j, omega (arith, lt), e))
+one_event n (x ∷ es) ms cs k event other at (zero, lt, e) = absurd (true≢false (sym (ap has_event e)))
+one_event n (x ∷ es) ms cs k event other at (suc j, lt, e) = one_event (n + 1) es (rest_words ms) (rest_words cs) k event other at (j, omega (arith, lt), e)
 
 empty_or : {A : Type 0} (xs : List A) → (xs ≡ []) ⊎ (xs ≢ [])
 empty_or [] = inl refl
@@ -129,8 +126,8 @@ module _ {F : Type 0} (old new : NodeView F) (d e : DrawerView) (events : List (
         let own = broke.is.own ∙ ap (λ o. broke.is.before ++ (broke.is.at, M.Stopped o) ∷ []) is in
         let held = (w.holds j b lt).has (broke.is.at, M.Stopped (Some ev))
         (subst (λ l. Contains l (broke.is.at, M.Stopped (Some ev))) (sym own) (Contains-append_right broke.is.before ((broke.is.at, M.Stopped (Some ev)) ∷ []) (broke.is.at, M.Stopped (Some ev)) (0, omega arith, refl))) in
-        let marks = came.marks ∙ ap (λ o. enumerate_from (length old.machine.entries) (handled_marks came.more came.moves ++ stop_marks new.stops o)) hand in
-        let same : ev ≡ event = one_event (length old.machine.entries) came.more came.moves new.stops event ev broke.is.at (subst (λ l. Contains l (broke.is.at, M.Stopped (Some ev))) marks held) in
+        let marks = came.marks ∙ ap (λ o. enumerate_from (length old.machine.entries) (handled_marks came.more came.moves came.counters ++ stop_marks new.stops o)) hand in
+        let same : ev ≡ event = one_event (length old.machine.entries) came.more came.moves came.counters new.stops event ev broke.is.at (subst (λ l. Contains l (broke.is.at, M.Stopped (Some ev))) marks held) in
         record { at = j; like = b; within = lt; broke = broke; next = subst (λ x. IsNext x broke.left) same (broke.is.next ev is) }
 
   by_stop : (event : Event) → event_in new.machine.hand ≡ Some event → (j : ℕ) (b : BearerOf F) (lt : j < length w.bearers) → (s : Option Stop) → (slice_index_or w.bearers j b).stop ≡ s
@@ -147,9 +144,9 @@ module _ {F : Type 0} (old new : NodeView F) (d e : DrawerView) (events : List (
   nobody : (event : Event) (m : ℕ) → new.stops ≡ suc m → event_in new.machine.hand ≡ Some event → ((j : ℕ) → j < length lists → j ≢ 0 → filter has_event (slice_index_or lists j []) ≡ []) → ⊥
   nobody event m stops hand all =
       let kept : filter has_event (added (node_marks old) (node_marks new)) ≡ [] = w.kept has_event [] (kept_at has_event 0 lists [] [] (omega (arith, lists_long)) refl all) in
-      let marks = came.marks ∙ ap (λ o. enumerate_from (length old.machine.entries) (handled_marks came.more came.moves ++ stop_marks new.stops o)) hand
-      ∙ ap (λ n. enumerate_from (length old.machine.entries) (handled_marks came.more came.moves ++ stop_marks n (Some event))) stops in
-      some_event (length old.machine.entries) came.more came.moves m event (ap (filter has_event) (sym marks) ∙ kept)
+      let marks = came.marks ∙ ap (λ o. enumerate_from (length old.machine.entries) (handled_marks came.more came.moves came.counters ++ stop_marks new.stops o)) hand
+      ∙ ap (λ n. enumerate_from (length old.machine.entries) (handled_marks came.more came.moves came.counters ++ stop_marks n (Some event))) stops in
+      some_event (length old.machine.entries) came.more came.moves came.counters m event (ap (filter has_event) (sym marks) ∙ kept)
 
   all_lists : (b : BearerOf F) → ((j : ℕ) → j < length w.bearers → filter has_event (slice_index_or w.bearers j b).pass.own ≡ []) → (j : ℕ) → j < length lists → j ≢ 0 → filter has_event (slice_index_or lists j []) ≡ []
   all_lists b all zero lt n = absurd (n refl)
@@ -238,10 +235,10 @@ module _ {F : Type 0} (old new : NodeView F) (d e : DrawerView) (events : List (
     pub next_in : 0 < new.stops → (event : Event) → event_in new.machine.hand ≡ Some event → is_outside event ≡ true → (rest : List (List (List Event))) → IsNextIn (phases ++ events ∷ rest) new.machine.entries event
     next_in some event hand out rest = next_at event out rest (found_at event new.stops refl some hand)
 
-  pub in_hand : (phases : List (List (List Event))) (sends : List (List Sent)) → AreDone phases old.machine.entries sends counts → 0 < new.stops → (event : Event) → event_in new.machine.hand ≡ Some event → is_outside event ≡ true
+  pub in_hand : (phases : List (List (List Event))) (sends : List (List Sent)) (ended : List ℕ) → AreDone phases old.machine.entries sends counts ended → 0 < new.stops → (event : Event) → event_in new.machine.hand ≡ Some event → is_outside event ≡ true
       → (rest : List (List (List Event))) → IsInHand (phases ++ events ∷ rest) new.machine.entries (both_of sends (map lines_of dones)) event
-  in_hand phases sends h some event hand out rest = record {
+  in_hand phases sends ended h some event hand out rest = record {
     parts = h.parts ++ part ∷ [];
-    fall = fall_more phases old new d e events counts dones sends h w memory few none;
+    fall = fall_more phases old new d e events counts ended dones sends h w memory few none;
     comes = behind_whole event (events ∷ rest) (part ∷ []) (all_parts false phases h.parts h.done) refl (here_at event out rest (found_at event new.stops refl some hand));
   }

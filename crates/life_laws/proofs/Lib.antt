@@ -4,6 +4,7 @@ pub mod Stopping
 pub mod Showing
 pub mod Rising
 pub mod Pairing
+pub mod Timing
 pub mod Drawing
 pub mod Walking
 pub mod Handing

@@ -65,12 +65,12 @@ module _ (role : Role) (plan : List Step) (over next : List StoreRecord) (told :
       let is : is_cut l.end ≡ true = ⊎_elim (λ bad. absurd (let no_hand : H.OfRefill ≡ H.Nothing = bad in cc)) (λ c. c) cut in
       ⊎_elim plainly (λ left. record { more = fill_of (config_of past.records) ∷ []; outlasts = of_refill on is; ranges = left.ranges; alike = left.alike }) h
 
-  pub life_of : (hand : Hand) → (config_of over).reset ≡ false → l.opened ≡ W.On (config_of over).iv (config_of over).mark
-      → map (λ t. t.entry) told ≡ l.entries → AreHandled role over [] told → ((k : ℕ) → IsNumbered l k) → AreOrdered (is_cut l.end) (phases_of plan) l.entries l.sends
+  pub life_of : (hand : Hand) (ends : List ℕ) → (config_of over).reset ≡ false → l.opened ≡ W.On (config_of over).iv (config_of over).mark
+      → map (λ t. t.entry) told ≡ l.entries → AreHandled role over [] told → ((k : ℕ) → IsNumbered l k) → AreOrdered (is_cut l.end) (phases_of plan) l.entries l.sends ends
       → IsLeftBy role (past_now role over told l.refills) hand next → ((hand ≡ H.Nothing) ⊎ (is_cut l.end ≡ true))
       → ((event : Event) → hand ≡ H.OfEvent event → is_outside event ≡ true → IsNextIn (phases_of plan) l.entries event)
       → IsDrawn over next l → All (λ s. IsSpentRight over next l s.outcome) (shown l) → LifeOf role plan over l next
-  life_of hand runs opened entries handled numbers ordered left cut next_in drawn spent =
+  life_of hand ends runs opened entries handled numbers ordered left cut next_in drawn spent =
       let on : is_on l.opened ≡ true = ap is_on opened in
       record {
         opening = subst (λ o. Opens (config_of over) o l.end) (sym opened) (opens runs);
@@ -116,8 +116,8 @@ module _ (role : Role) (plan : List Step) (over next : List StoreRecord) (l : Li
   }
 
 pub run_life : (role : Role) → RunLife role
-run_life role plan over next told l hand runs opened entries handled numbers ordered left cut next_in drawn spent =
-    life_of role plan over next told l hand runs opened entries handled numbers ordered left cut next_in drawn spent
+run_life role plan over next told l hand ends runs opened entries handled numbers ordered left cut next_in drawn spent =
+    life_of role plan over next told l hand ends runs opened entries handled numbers ordered left cut next_in drawn spent
 
 pub reset_life : (role : Role) → ResetLife role
 reset_life role plan over next reset left = idle_life role plan over next _ refl refl refl refl (was_reset reset) left

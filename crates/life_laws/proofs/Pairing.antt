@@ -26,6 +26,7 @@ use Rattle.seq_word.specs.Rule.{IsPast, times}
 use Rattle.seq_word.specs.Seen.{DrawerView}
 use Rattle.seq_word.specs.declared.looks.Look.{Look}
 use Rattle.seq_word.specs.declared.looks.Look.TheVariants as saw
+use Rattle.locked_node.specs.declared.marks.Behind.{Behind}
 use Rattle.locked_node.specs.declared.marks.Mark.{Mark}
 use Rattle.locked_node.specs.declared.marks.Mark.TheVariants as M
 use Rattle.locked_node.specs.Node.{NodeView, event_in, handled_marks, node_marks, stop_marks}
@@ -34,27 +35,14 @@ use Rattle.node_bearer.specs.Marked.{AreShown, HasOwnLooks, IsFrom, IsSpentSeen,
 use Rattle.node_bearer.proofs.Doing.{shown_prefix, told_each, words_more}
 use Rattle.node_bearer.proofs.Lists.{times_append}
 use Rattle.node_phase.specs.declared.bearers.Done.{Done}
-use Rattle.node_phase.specs.Part.{HadMemory, lines_of}
+use Rattle.node_phase.specs.Part.{HadMemory, lines_of, number_at}
 use Rattle.node_phase.specs.Worked.{WasPhase, Worked, done_of, drawn_by, looks_by}
 use Rattle.node_phase.proofs.Parting.{index_map}
 use Rattle.life_laws.specs.Pairs.{AreShownBy, IsFromMove, PairsSo, ShowsIn, all_of, all_shown}
 use Rattle.life_laws.specs.Phases.{both_of}
-use Rattle.life_laws.proofs.Placing.{CameTo, IsMoveOf, came_to, no_item}
+use Rattle.life_laws.proofs.Placing.{CameTo, IsWordOf, behind_at, came_to, mark_there, no_item, word_at}
 use Rattle.life_laws.proofs.Rising.{until_more}
 use Rattle.life_laws.proofs.Showing.{found_each, found_entries, found_more, shown_of_more}
-
--- an entry that is shown, and the move behind it, are among the marks
-marked : (es : List Entry) (ms : List ℕ) (k : ℕ) (event : Option Event) (i : ℕ) (e : Entry) (move : ℕ) → slice_get es i ≡ Some e → slice_get ms i ≡ Some move
-    → slice_get (handled_marks es ms ++ stop_marks k event) i ≡ Some (M.Handled e move)
-marked [] ms k event i e move here has = absurd (no_item i e here)
-marked (x ∷ es) [] k event i e move here has = absurd (no_item i move has)
-marked (x ∷ es) (m ∷ ms) k event zero e move here has =
-    let first : Some x ≡ Some e = here in
-    let second : Some m ≡ Some move = has in
-    let one : x ≡ e = cc in
-    let two : m ≡ move = cc in
-    cc
-marked (x ∷ es) (m ∷ ms) k event (suc i) e move here has = marked es ms k event i e move here has
 
 abbrev shown_by : Sent → Entry → Option Shown
 shown_by s e = option_map (λ job. record { entry = e; job = job; outcome = s.outcome }) (slice_get e.jobs s.job)
@@ -63,27 +51,38 @@ entry_there : (es : List Entry) (s : Sent) (y : Shown) (o : Option Entry) → sl
 entry_there es s y None is h = let bad : None ≡ Some y = h in absurd (no_item 0 y bad)
 entry_there es s y (Some e) is h = (e, is)
 
-from_marks : (es : List Entry) (ms : List ℕ) (k : ℕ) (event : Option Event) (s : Sent) → IsFrom (handled_marks es ms ++ stop_marks k event) s → IsFromMove es ms s
-from_marks es ms k event s h = λ line move word shown has told.
+-- the words that lines tell, and what stands behind their entries
+from_behind : (es : List Entry) (ms cs ws : List ℕ) (rest : List Mark) (f : Behind → ℕ) → ((i : ℕ) → f (behind_at ms cs i) ≡ number_at ws i) → (s : Sent)
+    → ((line : Shown) (e : Entry) (behind : Behind) (word : ℕ) → shown_in (handled_marks es ms cs ++ rest) s ≡ Some line → slice_get (handled_marks es ms cs ++ rest) s.entry ≡ Some (M.Handled e behind)
+    → word_told line.job line.outcome ≡ Some word → f behind ≤ word) → IsFromMove es ws s
+from_behind es ms cs ws rest f is s h = λ line move word shown has told.
     let there = entry_there es s line (slice_get es s.entry) refl shown in
-    let mark : slice_get (handled_marks es ms ++ stop_marks k event) s.entry ≡ Some (M.Handled there.0 move) = marked es ms k event s.entry there.0 move there.1 has in
-    let same : shown_in (handled_marks es ms ++ stop_marks k event) s ≡ shown_by s there.0 = ap (option_and_then (λ m. shown_at m s)) mark in
+    let behind = behind_at ms cs s.entry in
+    let mark = mark_there es ms cs rest s.entry there.0 there.1 in
+    let same : shown_in (handled_marks es ms cs ++ rest) s ≡ shown_by s there.0 = ap (option_and_then (λ m. shown_at m s)) mark in
     let other : shown_of es s ≡ shown_by s there.0 = ap (option_and_then (shown_by s)) there.1 in
-    h line (M.Handled there.0 move) word (same ∙ sym other ∙ shown) mark told
+    let over : f behind ≤ word = h line there.0 behind word (same ∙ sym other ∙ shown) mark told in
+    subst (λ x. x ≤ word) (is s.entry ∙ word_at ws s.entry move has) over
+
+from_marks : (es : List Entry) (ms cs : List ℕ) (rest : List Mark) (s : Sent) → IsFrom (handled_marks es ms cs ++ rest) s → IsFromMove es ms s
+from_marks es ms cs rest s h = from_behind es ms cs ms rest (λ behind. behind.moved) (λ i. refl) s (λ line e behind word shown mark told. (h line (M.Handled e behind) word shown mark told).0)
+
+from_counts : (es : List Entry) (ms cs : List ℕ) (rest : List Mark) (s : Sent) → IsFrom (handled_marks es ms cs ++ rest) s → IsFromMove es cs s
+from_counts es ms cs rest s h = from_behind es ms cs cs rest (λ behind. behind.counter) (λ i. refl) s (λ line e behind word shown mark told. (h line (M.Handled e behind) word shown mark told).1)
 
 -- more looks
 spent_in : (looks more : List Look) (o : Outcome) → ((x : Look) → Contains looks x → Contains more x) → IsSpentSeen looks o → IsSpentSeen more o
 spent_in looks more (O.Spent iv) f h = f _ h
 spent_in looks more _ f h = tt
 
--- what stood behind entries of before are the moves there still
-abbrev AreKept : List Entry → List ℕ → List ℕ → Type 0
-AreKept es ms ns = (i move : ℕ) (e : Entry) → slice_get es i ≡ Some e → slice_get ns i ≡ Some move → IsMoveOf ms i move
+-- what stood behind entries of before stands there still
+abbrev pub AreKept : List Entry → List ℕ → List ℕ → Type 0
+AreKept es ms ns = (i move : ℕ) (e : Entry) → slice_get es i ≡ Some e → slice_get ns i ≡ Some move → IsWordOf ms i move
 
 least : (move word : ℕ) → move ≡ 0 → move ≤ word
 least move word none = omega (arith, none)
 
-from_more : (es new : List Entry) (ms ns : List ℕ) (came : List Entry) → new ≡ es ++ came → AreKept es ms ns → (s : Sent) (y : Shown) → shown_of es s ≡ Some y → IsFromMove es ms s → IsFromMove new ns s
+pub from_more : (es new : List Entry) (ms ns : List ℕ) (came : List Entry) → new ≡ es ++ came → AreKept es ms ns → (s : Sent) (y : Shown) → shown_of es s ≡ Some y → IsFromMove es ms s → IsFromMove new ns s
 from_more es new ms ns came is kept s y found h = λ line move word shown has told.
     let there = entry_there es s y (slice_get es s.entry) refl found in
     let now : shown_of new s ≡ Some y = subst (λ l. shown_of l s ≡ Some y) (sym is) (shown_of_more es came s y (slice_get es s.entry) refl found) in
@@ -336,8 +335,8 @@ module _ {F : Type 0} (old new : NodeView F) (d e : DrawerView) (events : List (
   had_memory k b lt is =
       memory k (done_of b) (omega (arith, lt, dones_long)) (ap (λ xs. (slice_index_or xs k (done_of b)).stop) w.left ∙ ap (λ x. x.stop) (index_map done_of w.bearers k b (done_of b) lt) ∙ is)
 
-  marks : node_marks new ≡ handled_marks new.machine.entries new.machine.moves ++ stop_marks new.stops (event_in new.machine.hand)
-  marks = refl
+  abbrev stops : List Mark
+  stops = stop_marks new.stops (event_in new.machine.hand)
 
   each : All (ShownOf new.machine.entries new.machine.moves d e.looks) w.bearers
   each k b lt =
@@ -351,13 +350,13 @@ module _ {F : Type 0} (old new : NodeView F) (d e : DrawerView) (events : List (
       record {
         shown = record {
           shows = shown.shows;
-          found = found_entries new.machine.entries new.machine.moves new.stops (event_in new.machine.hand) mine.lines.items shown.shows shown.found;
+          found = found_entries new.machine.entries new.machine.moves new.counters new.stops (event_in new.machine.hand) mine.lines.items shown.shows shown.found;
           short = shown.short;
           drawing = shown.drawing;
           seq = shown.seq;
           spent = λ j s lt'. spent_in mine.drawer.looks e.looks _ (λ x c. subst (λ l. Contains l x) (sym w.looks) (Contains-append_right d.looks (flat_map looks_by w.bearers) x (contains_flat looks_by w.bearers k b x lt c))) (shown.spent j s lt');
           onward = shown.onward;
-          from = λ j s lt'. from_marks new.machine.entries new.machine.moves new.stops (event_in new.machine.hand) _ (shown.from j s lt');
+          from = λ j s lt'. from_marks new.machine.entries new.machine.moves new.counters stops _ (shown.from j s lt');
         };
         rise = showed.rise;
         above = λ j x lt'. all_right (λ y. y < slice_index_or mine.drawer.drawn j x) d.noted d.drawn (subst (All (λ y. y < slice_index_or mine.drawer.drawn j x)) noted (showed.above j x lt'));
@@ -370,12 +369,20 @@ module _ {F : Type 0} (old new : NodeView F) (d e : DrawerView) (events : List (
             };
       }
 
+  -- and where the counter was
+  pub each_counted : All (λ b. All (IsFromMove new.machine.entries new.counters) b.lines.items) w.bearers
+  each_counted k b lt =
+      let mine = slice_index_or w.bearers k b in
+      let showed = showed_by k (list_at events k) (slice_index_or w.before k b) mine mine.stop refl (had_memory k b lt) (w.worked k b (omega (arith, lt, w.long))) in
+      let shown = shown_prefix mine.pass.seen (node_marks new) mine.lines.items mine.drawer (w.seen k b lt) showed.shown in
+      λ j s lt'. from_counts new.machine.entries new.machine.moves new.counters stops _ (shown.from j s lt')
+
   each_own : (x : ℕ) → All (HasOwn x new.machine.entries) w.bearers
   each_own x k b lt =
       let mine = slice_index_or w.bearers k b in
       let showed = showed_by k (list_at events k) (slice_index_or w.before k b) mine mine.stop refl (had_memory k b lt) (w.worked k b (omega (arith, lt, w.long))) in
       let shown = shown_prefix mine.pass.seen (node_marks new) mine.lines.items mine.drawer (w.seen k b lt) showed.shown in
-      let are = filter_found (shown_of new.machine.entries) mine.lines.items shown.shows (found_entries new.machine.entries new.machine.moves new.stops (event_in new.machine.hand) mine.lines.items shown.shows shown.found) in
+      let are = filter_found (shown_of new.machine.entries) mine.lines.items shown.shows (found_entries new.machine.entries new.machine.moves new.counters new.stops (event_in new.machine.hand) mine.lines.items shown.shows shown.found) in
       subst (λ l. times x (ends_told l) ≤ times x (words_seen mine.drawer.looks)) (sym are) (shown.own x)
 
   own_more : HasOwnLooks (ends_told (all_shown new.machine.entries (both_of sends (map lines_of dones)))) e.looks
@@ -397,7 +404,7 @@ module _ {F : Type 0} (old new : NodeView F) (d e : DrawerView) (events : List (
     drawns = both_of h.drawns (map drawn_by w.bearers);
     shown = subst (λ ds. AreShownBy new.machine.entries new.machine.moves (both_of sends (map lines_of ds)) (both_of h.drawns (map drawn_by w.bearers)) e.looks) (sym w.left)
         (shown_all new.machine.entries new.machine.moves d e.looks (λ x c. subst (λ l. Contains l x) (sym w.looks) (Contains-append_left d.looks (flat_map looks_by w.bearers) x c)) sends h.drawns w.bearers
-        (shown_later old.machine.entries new.machine.entries old.machine.moves new.machine.moves d.looks d.looks came.more came.is came.kept (λ x c. c) sends h.drawns h.shown)
+        (shown_later old.machine.entries new.machine.entries old.machine.moves new.machine.moves d.looks d.looks came.more came.is came.moved (λ x c. c) sends h.drawns h.shown)
         (within_drawn h.drawns d.drawn h.counted) each same_count);
     counted = λ x. omega (arith, counted_both x h.drawns w.bearers, h.counted x, ap (times x) w.drawn, times_append x d.drawn (flat_map drawn_by w.bearers));
     own = own_more;

@@ -1,6 +1,6 @@
--- What lines draw is below each word that the counter was moved to with a later event from outside of the same bearer.
+-- What lines draw is below each word that the counter came to with a later event from outside of the same bearer, and with an entry of a later phase.
 use Rattle.std.proofs.Common.{◌≡◌, ◌≢◌, ◌∙◌, ◌⊎◌, inl, inr, ℕ, zero, suc, ◌+◌, ◌<◌, ◌≤◌, Bool, true, false, List, [], ◌∷◌, ◌++◌, length, map, take, Option, Some, None, refl, sym, ap, subst, arith, append-nil}
-use Rattle.std.specs.Prelude.{◌==◌, All, replicate, slice_index_or, ⊤}
+use Rattle.std.specs.Prelude.{◌==◌, ◌*◌, ◌^◌, All, replicate, slice_index_or, ⊤}
 use Rattle.std.specs.List.{Contains, filter, slice_get}
 use Rattle.std.proofs.lemmas.Bool.Decides.{nat_tests}
 use Rattle.std.proofs.lemmas.List.{length-map, map-append, take-append-le}
@@ -13,18 +13,22 @@ use Rattle.mesh_types.specs.declared.events.Event.{Event}
 use Rattle.mesh_types.specs.declared.history.Entry.{Entry}
 use Rattle.mesh_types.specs.declared.history.Sent.{Sent}
 use Rattle.mesh_types.specs.declared.jobs.Job.{Job}
+use Rattle.mesh_types.specs.declared.lines.Outcome.{Outcome}
+use Rattle.mesh_types.specs.declared.lines.Outcome.TheVariants as O
 use Rattle.report_definitions.specs.Record.{Shown, list_at, shown_of}
 use Rattle.run_definitions.specs.Lines.{after_line, drawn_of}
 use Rattle.run_definitions.specs.Order.{Placed, Task, Walks, follow, follows, handle, handles, is_outside, of_bearer, placed_from, stops, write, write_tasks, writes}
 use Rattle.run_definitions.specs.RunOf.{draws}
+use Rattle.seq_word.specs.Rule.{IsPast}
 use Rattle.seq_word.specs.Seen.{DrawerView, last_word}
 use Rattle.seq_word.specs.declared.looks.Look.{Look}
+use Rattle.seq_word.specs.declared.looks.Look.TheVariants as saw
 use Rattle.turn_lock.specs.Entries.{added}
 use Rattle.turn_lock.proofs.Kept.{kept_at}
 use Rattle.locked_node.specs.declared.marks.Mark.{Mark}
-use Rattle.locked_node.specs.Node.{NodeView, event_in, handled_marks, marks_of, node_marks, stop_marks}
+use Rattle.locked_node.specs.Node.{NodeView, event_in, handled_marks, marks_of, node_marks, rest_words, stop_marks}
 use Rattle.node_bearer.specs.Did.{AreMarksAt, BearerOf, Did, IsMovedOver}
-use Rattle.node_bearer.specs.Marked.{AreShown, IsRiseAt, move_of, shown_in}
+use Rattle.node_bearer.specs.Marked.{AreShown, IsReachedAt, IsRiseAt, IsSpentSeen, IsToldBelow, counter_of, end_told, move_of, shown_in}
 use Rattle.node_bearer.proofs.Lists.{found_longer, get_longer}
 use Rattle.node_phase.specs.declared.bearers.Done.{Done}
 use Rattle.node_phase.specs.Part.{HadMemory, lines_of}
@@ -42,12 +46,12 @@ get_before [] rest i lt = absurd (omega (arith, lt))
 get_before (x ∷ xs) rest zero lt = refl
 get_before (x ∷ xs) rest (suc i) lt = get_before xs rest i (omega (arith, lt))
 
-get_there : {A : Type 0} (xs : List A) (i : ℕ) → i < length xs → (x : A) × (slice_get xs i ≡ Some x)
+pub get_there : {A : Type 0} (xs : List A) (i : ℕ) → i < length xs → (x : A) × (slice_get xs i ≡ Some x)
 get_there [] i lt = absurd (omega (arith, lt))
 get_there (x ∷ xs) zero lt = (x, refl)
 get_there (x ∷ xs) (suc i) lt = get_there xs i (omega (arith, lt))
 
-within_get : {A : Type 0} (xs : List A) (i : ℕ) (x : A) → slice_get xs i ≡ Some x → i < length xs
+pub within_get : {A : Type 0} (xs : List A) (i : ℕ) (x : A) → slice_get xs i ≡ Some x → i < length xs
 within_get [] i x h = absurd (no_item i x h)
 within_get (y ∷ xs) zero x h = omega arith
 within_get (y ∷ xs) (suc i) x h = omega (arith, within_get xs i x h)
@@ -57,32 +61,39 @@ get_past [] ys i x h le = (i, omega arith, h)
 get_past (y ∷ xs) ys zero x h le = absurd (omega (arith, le))
 get_past (y ∷ xs) ys (suc i) x h le = let r = get_past xs ys i x h (omega (arith, le)) in (r.0, omega (arith, r.1), r.2)
 
--- moves, and those of the marks of entries
-get_move : (es : List Entry) (ms : List ℕ) (rest : List Mark) (i : ℕ) (e : Entry) (move : ℕ) → slice_get es i ≡ Some e → slice_get ms i ≡ Some move
-    → slice_get (map move_of (handled_marks es ms ++ rest)) i ≡ Some move
-get_move [] ms rest i e move here has = absurd (no_item i e here)
-get_move (x ∷ es) [] rest i e move here has = absurd (no_item i move has)
-get_move (x ∷ es) (m ∷ ms) rest zero e move here has = has
-get_move (x ∷ es) (m ∷ ms) rest (suc i) e move here has = get_move es ms rest i e move here has
+-- moves, and those of the marks of entries; and so the counters
+get_move : (es : List Entry) (ms cs : List ℕ) (rest : List Mark) (i : ℕ) (e : Entry) (move : ℕ) → slice_get es i ≡ Some e → slice_get ms i ≡ Some move
+    → slice_get (map move_of (handled_marks es ms cs ++ rest)) i ≡ Some move
+get_move [] ms cs rest i e move here has = absurd (no_item i e here)
+get_move (x ∷ es) [] cs rest i e move here has = absurd (no_item i move has)
+get_move (x ∷ es) (m ∷ ms) cs rest zero e move here has = has
+get_move (x ∷ es) (m ∷ ms) cs rest (suc i) e move here has = get_move es ms (rest_words cs) rest i e move here has
 
-take_moves : (es : List Entry) (ms : List ℕ) (rest : List Mark) (i : ℕ) (e : Entry) (move : ℕ) → slice_get es i ≡ Some e → slice_get ms i ≡ Some move
-    → take i (map move_of (handled_marks es ms ++ rest)) ≡ take i ms
-take_moves [] ms rest i e move here has = absurd (no_item i e here)
-take_moves (x ∷ es) [] rest i e move here has = absurd (no_item i move has)
-take_moves (x ∷ es) (m ∷ ms) rest zero e move here has = refl
-take_moves (x ∷ es) (m ∷ ms) rest (suc i) e move here has = ap (λ l. m ∷ l) (take_moves es ms rest i e move here has)
+get_counter : (es : List Entry) (ms cs : List ℕ) (rest : List Mark) (i : ℕ) (e : Entry) (counter : ℕ) → slice_get es i ≡ Some e → slice_get cs i ≡ Some counter
+    → slice_get (map counter_of (handled_marks es ms cs ++ rest)) i ≡ Some counter
+get_counter [] ms cs rest i e counter here has = absurd (no_item i e here)
+get_counter (x ∷ es) ms [] rest i e counter here has = absurd (no_item i counter has)
+get_counter (x ∷ es) ms (c ∷ cs) rest zero e counter here has = has
+get_counter (x ∷ es) ms (c ∷ cs) rest (suc i) e counter here has = get_counter es (rest_words ms) cs rest i e counter here has
 
-rise_marked : (es : List Entry) (ms : List ℕ) (rest : List Mark) (i : ℕ) (e : Entry) (word : ℕ) → slice_get es i ≡ Some e → IsRiseAt ms i word → IsRiseAt (map move_of (handled_marks es ms ++ rest)) i word
-rise_marked es ms rest i e word here r = record {
-  here = get_move es ms rest i e word here r.here;
-  rises = λ same. r.rises (ap last_word (sym (take_moves es ms rest i e word here r.here)) ∙ same);
+take_moves : (es : List Entry) (ms cs : List ℕ) (rest : List Mark) (i : ℕ) (e : Entry) (move : ℕ) → slice_get es i ≡ Some e → slice_get ms i ≡ Some move
+    → take i (map move_of (handled_marks es ms cs ++ rest)) ≡ take i ms
+take_moves [] ms cs rest i e move here has = absurd (no_item i e here)
+take_moves (x ∷ es) [] cs rest i e move here has = absurd (no_item i move has)
+take_moves (x ∷ es) (m ∷ ms) cs rest zero e move here has = refl
+take_moves (x ∷ es) (m ∷ ms) cs rest (suc i) e move here has = ap (λ l. m ∷ l) (take_moves es ms (rest_words cs) rest i e move here has)
+
+rise_marked : (es : List Entry) (ms cs : List ℕ) (rest : List Mark) (i : ℕ) (e : Entry) (word : ℕ) → slice_get es i ≡ Some e → IsRiseAt ms i word → IsRiseAt (map move_of (handled_marks es ms cs ++ rest)) i word
+rise_marked es ms cs rest i e word here r = record {
+  here = get_move es ms cs rest i e word here r.here;
+  rises = λ same. r.rises (ap last_word (sym (take_moves es ms cs rest i e word here r.here)) ∙ same);
 }
 
-rise_unmarked : (es : List Entry) (ms : List ℕ) (rest : List Mark) (i : ℕ) (e : Entry) (m word : ℕ) → slice_get es i ≡ Some e → slice_get ms i ≡ Some m → IsRiseAt (map move_of (handled_marks es ms ++ rest)) i word
+rise_unmarked : (es : List Entry) (ms cs : List ℕ) (rest : List Mark) (i : ℕ) (e : Entry) (m word : ℕ) → slice_get es i ≡ Some e → slice_get ms i ≡ Some m → IsRiseAt (map move_of (handled_marks es ms cs ++ rest)) i word
     → IsRiseAt ms i word
-rise_unmarked es ms rest i e m word here has r = record {
-  here = has ∙ sym (get_move es ms rest i e m here has) ∙ r.here;
-  rises = λ same. r.rises (ap last_word (take_moves es ms rest i e m here has) ∙ same);
+rise_unmarked es ms cs rest i e m word here has r = record {
+  here = has ∙ sym (get_move es ms cs rest i e m here has) ∙ r.here;
+  rises = λ same. r.rises (ap last_word (take_moves es ms cs rest i e m here has) ∙ same);
 }
 
 rise_front : (marks rest : List Mark) (i word : ℕ) → i < length marks → IsRiseAt (map move_of (marks ++ rest)) i word → IsRiseAt (map move_of marks) i word
@@ -93,6 +104,10 @@ rise_front marks rest i word lt r =
       here = sym (get_before (map move_of marks) (map move_of rest) i (omega (arith, lt, long))) ∙ ap (λ l. slice_get l i) (sym both) ∙ r.here;
       rises = λ same. r.rises (ap (λ l. last_word (take i l)) both ∙ ap last_word (take-append-le i (map move_of marks) (map move_of rest) (omega (arith, lt, long))) ∙ same);
     }
+
+count_front : (marks rest : List Mark) (i word : ℕ) → i < length marks → slice_get (map counter_of (marks ++ rest)) i ≡ Some word → slice_get (map counter_of marks) i ≡ Some word
+count_front marks rest i word lt h =
+    sym (get_before (map counter_of marks) (map counter_of rest) i (omega (arith, lt, length-map marks counter_of))) ∙ ap (λ l. slice_get l i) (sym (map-append counter_of marks rest)) ∙ h
 
 -- the lines that tasks are to write are of entries from this place on
 abbrev WriteFrom : ℕ → List Task → Type 0
@@ -190,6 +205,28 @@ all_at [] k x (j, lt, e) = absurd (omega (arith, lt))
 all_at (w ∷ drawns) zero x c = Contains-append_left w (all_of drawns) x c
 all_at (w ∷ drawns) (suc k) x c = Contains-append_right w (all_of drawns) x (all_at drawns k x c)
 
+-- a line is among what the lines show
+shown_there : (f : Sent → Option Shown) (lines : List Sent) (shows : List Shown) → map f lines ≡ map Some shows → (j : ℕ) (s : Sent) → j < length lines → (line : Shown) → f (slice_index_or lines j s) ≡ Some line → Contains shows line
+shown_there f [] shows found j s lt line is = absurd (omega (arith, lt))
+shown_there f (x ∷ lines) [] found j s lt line is = absurd (no_more (f x) (map f lines) found)
+shown_there f (x ∷ lines) (y ∷ shows) found zero s lt line is =
+    let head : f x ≡ Some y = cc in
+    let both : Some y ≡ Some line = sym head ∙ is in
+    let same : y ≡ line = cc in
+    (0, omega arith, same)
+shown_there f (x ∷ lines) (y ∷ shows) found (suc j) s lt line is =
+    let tail : map f lines ≡ map Some shows = cc in
+    let c = shown_there f lines shows tail j s (omega (arith, lt)) line is in
+    (suc c.0, omega (arith, c.1), c.2)
+
+-- the end that a line tells was seen in the counter
+end_seen : (looks : List Look) (o : Outcome) (end : ℕ) → IsSpentSeen looks o → end_told o ≡ Some end → Contains looks (saw.Counter end)
+end_seen looks (O.Spent iv) end seen told =
+    let is : Some (iv * 2 ^ 25 + 2 ^ 24) ≡ Some end = told in
+    let same : iv * 2 ^ 25 + 2 ^ 24 ≡ end = cc in
+    subst (λ x. Contains looks (saw.Counter x)) same seen
+end_seen looks _ end seen told = cc
+
 -- what one bearer did in the phase, whether it stopped or not
 record Own {F : Type 0} (k : ℕ) (events : List Event) (b : BearerOf F) : Type 0 where
   pub entries : List Placed
@@ -233,7 +270,7 @@ module _ {F : Type 0} (old new : NodeView F) (d e : DrawerView) (events : List (
   dones_long : length dones ≡ length w.bearers
   dones_long = ap length w.left ∙ length-map w.bearers done_of
 
-  done_at : (k : ℕ) (b : BearerOf F) → k < length w.bearers → slice_index_or dones k (done_of b) ≡ done_of (slice_index_or w.bearers k b)
+  pub done_at : (k : ℕ) (b : BearerOf F) → k < length w.bearers → slice_index_or dones k (done_of b) ≡ done_of (slice_index_or w.bearers k b)
   done_at k b lt = ap (λ xs. slice_index_or xs k (done_of b)) w.left ∙ index_map done_of w.bearers k b (done_of b) lt
 
   own_at : (k : ℕ) (b : BearerOf F) → k < length w.bearers → Own k (list_at events k) (slice_index_or w.bearers k b)
@@ -263,80 +300,157 @@ module _ {F : Type 0} (old new : NodeView F) (d e : DrawerView) (events : List (
       w.kept (is_by k) mine (kept_at (is_by k) (suc k) lists [] mine (omega (arith, lt, lists_long)) (ap (filter (is_by k)) (index_map own_of w.bearers k b [] lt)) (others k b)) in
       ap (of_bearer k) (sym came.placed) ∙ entries_of_bearer k (added (node_marks old) (node_marks new)) own.entries (subst (λ l. AreMarksAt l own.entries) (sym all) own.kept)
 
+  placed_here : (at : ℕ) (entry : Entry) → slice_get new.machine.entries at ≡ Some entry → length old.machine.entries ≤ at
+      → Contains (of_bearer entry.bearer (placed_from (length old.machine.entries) came.more)) (record { at = at; entry = entry })
+  placed_here at entry here behind =
+      let past = get_past old.machine.entries came.more at entry (ap (λ l. slice_get l at) (sym came.is) ∙ here) behind in
+      let placed = subst (λ n. Contains (placed_from (length old.machine.entries) came.more) (record { at = n; entry = entry })) past.1 (placed_there (length old.machine.entries) came.more past.0 entry past.2) in
+      kept_there (λ (p : Placed). p.entry.bearer == entry.bearer) (placed_from (length old.machine.entries) came.more) (record { at = at; entry = entry }) (is_bearer entry.bearer entry.bearer refl) placed
+
   own_here : (k : ℕ) (b : BearerOf F) (lt : k < length w.bearers) (at : ℕ) (entry : Entry) → slice_get new.machine.entries at ≡ Some entry → entry.bearer ≡ k → length old.machine.entries ≤ at
       → Contains (own_at k b lt).entries (record { at = at; entry = entry })
   own_here k b lt at entry here by behind =
-      let past = get_past old.machine.entries came.more at entry (ap (λ l. slice_get l at) (sym came.is) ∙ here) behind in
-      let placed = subst (λ n. Contains (placed_from (length old.machine.entries) came.more) (record { at = n; entry = entry })) past.1 (placed_there (length old.machine.entries) came.more past.0 entry past.2) in
       subst (λ l. Contains l (record { at = at; entry = entry })) (entries_of k b lt)
-      (kept_there (λ (p : Placed). p.entry.bearer == k) (placed_from (length old.machine.entries) came.more) (record { at = at; entry = entry }) (is_bearer entry.bearer k by) placed)
+      (subst (λ m. Contains (of_bearer m (placed_from (length old.machine.entries) came.more)) (record { at = at; entry = entry })) by (placed_here at entry here behind))
+
+  -- past the last bearer there are none
+  entries_past : (k : ℕ) → length w.bearers ≤ k → of_bearer k (placed_from (length old.machine.entries) came.more) ≡ []
+  entries_past k le =
+      let all : filter (is_by k) (added (node_marks old) (node_marks new)) ≡ [] = w.kept (is_by k) [] (kept_at (is_by k) 0 lists [] [] (omega (arith, lists_long)) refl none_there) in
+      ap (of_bearer k) (sym came.placed) ∙ entries_of_bearer k (added (node_marks old) (node_marks new)) [] (subst (λ l. AreMarksAt l []) (sym all) tt)
+    where
+      none_there : (j : ℕ) → j < length lists → j ≢ 0 → filter (is_by k) (slice_index_or lists j []) ≡ []
+      none_there zero lt n = absurd (n refl)
+      none_there (suc j) lt n =
+          let here : j < length w.bearers = omega (arith, lt, lists_long) in
+          let b = first_of w.bearers j here in
+          ap (filter (is_by k)) (index_map own_of w.bearers j b [] here) ∙ (own_at j b here).other k (λ same. let one : k ≡ j = same in omega (arith, one, here, le))
+
+  -- so an entry that came is of one of them
+  pub bearer_within : (at : ℕ) (entry : Entry) → slice_get new.machine.entries at ≡ Some entry → length old.machine.entries ≤ at → entry.bearer < length w.bearers
+  bearer_within at entry here behind = by_count (less_or entry.bearer (length w.bearers)) where
+    by_count : (entry.bearer < length w.bearers) ⊎ (length w.bearers ≤ entry.bearer) → entry.bearer < length w.bearers
+    by_count (inl lt) = lt
+    by_count (inr le) =
+        let c : Contains [] (record { at = at; entry = entry }) = subst (λ l. Contains l (record { at = at; entry = entry })) (entries_past entry.bearer le) (placed_here at entry here behind) in
+        absurd (omega (arith, c.1))
 
   -- its lines are of these entries
-  lines_behind : (k : ℕ) (b : BearerOf F) (lt : k < length w.bearers) → All (λ s. length old.machine.entries ≤ s.entry) (slice_index_or w.bearers k b).lines.items
+  pub lines_behind : (k : ℕ) (b : BearerOf F) (lt : k < length w.bearers) → All (λ s. length old.machine.entries ≤ s.entry) (slice_index_or w.bearers k b).lines.items
   lines_behind k b lt =
       let n = length old.machine.entries in
       lines_from n (own_at k b lt).walks
       (subst (All (λ (p : Placed). n ≤ p.at)) (entries_of k b lt) (All-filter (λ (p : Placed). p.entry.bearer == k) (λ (p : Placed). n ≤ p.at) (placed_from n came.more) (placed_above n n came.more (omega arith))))
       (from_handles n (list_at events k))
 
-  -- where the counter was moved with one of these, that bearer saw it
+  -- what the counter came to with one of these, that bearer saw
   moved_here : (k : ℕ) (b : BearerOf F) (lt : k < length w.bearers) (at : ℕ) (entry : Entry) → slice_get new.machine.entries at ≡ Some entry → entry.bearer ≡ k → length old.machine.entries ≤ at
       → IsMovedOver (slice_index_or w.bearers k b).pass.seen (slice_index_or w.bearers k b).lines.items (slice_index_or w.bearers k b).drawer (record { at = at; entry = entry })
   moved_here k b lt at entry here by behind =
       let mine = slice_index_or w.bearers k b in
       All-contains (IsMovedOver mine.pass.seen mine.lines.items mine.drawer) (own_at k b lt).entries (record { at = at; entry = entry }) (own_at k b lt).until (own_here k b lt at entry here by behind)
 
+  near_here : (k : ℕ) (b : BearerOf F) (lt : k < length w.bearers) (at : ℕ) (entry : Entry) → slice_get new.machine.entries at ≡ Some entry → entry.bearer ≡ k → length old.machine.entries ≤ at
+      → at < length (slice_index_or w.bearers k b).pass.seen
+  near_here k b lt at entry here by behind =
+      let mine = slice_index_or w.bearers k b in
+      All-contains (λ (p : Placed). p.at < length mine.pass.seen) (own_at k b lt).entries (record { at = at; entry = entry }) (own_at k b lt).last (own_here k b lt at entry here by behind)
+
   rise_seen : (k : ℕ) (b : BearerOf F) (lt : k < length w.bearers) (at : ℕ) (entry : Entry) (move : ℕ) → slice_get new.machine.entries at ≡ Some entry → entry.bearer ≡ k → length old.machine.entries ≤ at
-      → IsRiseAt new.machine.moves at move → IsRiseAt (map move_of (slice_index_or w.bearers k b).pass.seen) at move
+      → IsRiseAt new.machine.moves at move → IsReachedAt (slice_index_or w.bearers k b).pass.seen at move
   rise_seen k b lt at entry move here by behind rise =
       let mine = slice_index_or w.bearers k b in
-      let near : at < length mine.pass.seen = All-contains (λ (p : Placed). p.at < length mine.pass.seen) (own_at k b lt).entries (record { at = at; entry = entry }) (own_at k b lt).last (own_here k b lt at entry here by behind) in
-      rise_front mine.pass.seen (w.seen k b lt).rest at move near
-      (subst (λ l. IsRiseAt (map move_of l) at move) (w.seen k b lt).is (rise_marked new.machine.entries new.machine.moves (stop_marks new.stops (event_in new.machine.hand)) at entry move here rise))
+      inl (rise_front mine.pass.seen (w.seen k b lt).rest at move (near_here k b lt at entry here by behind)
+      (subst (λ l. IsRiseAt (map move_of l) at move) (w.seen k b lt).is (rise_marked new.machine.entries new.machine.moves new.counters (stop_marks new.stops (event_in new.machine.hand)) at entry move here rise)))
+
+  pub count_seen : (k : ℕ) (b : BearerOf F) (lt : k < length w.bearers) (at : ℕ) (entry : Entry) (counter : ℕ) → slice_get new.machine.entries at ≡ Some entry → entry.bearer ≡ k → length old.machine.entries ≤ at
+      → slice_get new.counters at ≡ Some counter → IsReachedAt (slice_index_or w.bearers k b).pass.seen at counter
+  count_seen k b lt at entry counter here by behind has =
+      let mine = slice_index_or w.bearers k b in
+      inr (count_front mine.pass.seen (w.seen k b lt).rest at counter (near_here k b lt at entry here by behind)
+      (subst (λ l. slice_get (map counter_of l) at ≡ Some counter) (w.seen k b lt).is (get_counter new.machine.entries new.machine.moves new.counters (stop_marks new.stops (event_in new.machine.hand)) at entry counter here has)))
 
   -- where it was moved before, the moves of before say so
   rise_before : (at : ℕ) (entry : Entry) (move : ℕ) → slice_get old.machine.entries at ≡ Some entry → IsRiseAt new.machine.moves at move → IsRiseAt old.machine.moves at move
   rise_before at entry move here rise =
       let es = old.machine.entries in
       let ms = old.machine.moves in
-      let plain : node_marks old ≡ handled_marks es ms = ap (λ n. marks_of es ms n old.machine.hand) none ∙ append-nil (handled_marks es ms) in
-      let whole : node_marks new ≡ handled_marks es ms ++ w.front.rest = w.front.is ∙ ap (λ l. l ++ w.front.rest) plain in
+      let cs = old.counters in
+      let plain : node_marks old ≡ handled_marks es ms cs = ap (λ n. marks_of es ms cs n old.machine.hand) none ∙ append-nil (handled_marks es ms cs) in
+      let whole : node_marks new ≡ handled_marks es ms cs ++ w.front.rest = w.front.is ∙ ap (λ l. l ++ w.front.rest) plain in
       let now : slice_get new.machine.entries at ≡ Some entry = ap (λ l. slice_get l at) came.is ∙ get_longer es came.more at entry here in
       let there = get_there ms at (omega (arith, within_get es at entry here, h.long)) in
-      rise_unmarked es ms w.front.rest at entry there.0 move here there.1
-      (subst (λ l. IsRiseAt (map move_of l) at move) whole (rise_marked new.machine.entries new.machine.moves (stop_marks new.stops (event_in new.machine.hand)) at entry move now rise))
+      rise_unmarked es ms cs w.front.rest at entry there.0 move here there.1
+      (subst (λ l. IsRiseAt (map move_of l) at move) whole (rise_marked new.machine.entries new.machine.moves new.counters (stop_marks new.stops (event_in new.machine.hand)) at entry move now rise))
 
-  -- lines of this phase
-  until_now : (k : ℕ) (b : BearerOf F) (lt : k < length w.bearers) → All (IsUntilMove k new.machine.entries new.machine.moves) (slice_index_or w.bearers k b).lines.items
-  until_now k b lt j s in_lines = λ line p at entry move shown draws here by out before rise.
+  -- lines of this phase, and what the counter came to with a later entry of an event from outside of the same bearer
+  pub below_now : (k : ℕ) (b : BearerOf F) (lt : k < length w.bearers) (j : ℕ) (s : Sent) → j < length (slice_index_or w.bearers k b).lines.items → (line : Shown) (at : ℕ) (entry : Entry) (word : ℕ)
+      → shown_of new.machine.entries (slice_index_or (slice_index_or w.bearers k b).lines.items j s) ≡ Some line → slice_get new.machine.entries at ≡ Some entry → entry.bearer ≡ k → is_outside entry.event ≡ true
+      → (slice_index_or (slice_index_or w.bearers k b).lines.items j s).entry < at → (length old.machine.entries ≤ at → IsReachedAt (slice_index_or w.bearers k b).pass.seen at word) → IsToldBelow word line
+  below_now k b lt j s in_lines line at entry word shown here by out before reached =
       let mine = slice_index_or w.bearers k b in
       let behind : length old.machine.entries ≤ at = omega (arith, lines_behind k b lt j s in_lines, before) in
       let own = (own_at k b lt).shown in
       let all = subst (λ ms. map (shown_in ms) mine.lines.items ≡ map Some own.shows) (sym (w.seen k b lt).is) (found_longer mine.pass.seen (w.seen k b lt).rest mine.lines.items own.shows own.found) in
-      let found = found_entries new.machine.entries new.machine.moves new.stops (event_in new.machine.hand) mine.lines.items own.shows all in
+      let found = found_entries new.machine.entries new.machine.moves new.counters new.stops (event_in new.machine.hand) mine.lines.items own.shows all in
       let same = same_each (shown_in mine.pass.seen) (shown_of new.machine.entries) mine.lines.items own.shows own.found found j s in_lines in
-      (moved_here k b lt at entry here by behind).lines_are move out (rise_seen k b lt at entry move here by behind rise) j s in_lines line p before (same ∙ shown) draws
+      (moved_here k b lt at entry here by behind).lines_are word out (reached behind) j s in_lines line before (same ∙ shown)
 
-  -- lines of before: their words are among those that each bearer of this phase notes
-  until_before : (k : ℕ) (b : BearerOf F) → k < length w.bearers → All (IsUntilMove k new.machine.entries new.machine.moves) (list_at sends k)
-  until_before k b lt j s in_lines = λ line p at entry move shown draws here by out before rise.
-      let had = shows_at old.machine.entries old.machine.moves sends h.drawns d.looks h.shown k j in_lines in
-      let now : map (shown_of new.machine.entries) (list_at sends k) ≡ map Some had.shows =
-      subst (λ l. map (shown_of l) (list_at sends k) ≡ map Some had.shows) (sym came.is) (found_more old.machine.entries came.more (list_at sends k) had.shows had.found) in
-      by_place line p at entry move had now shown draws here by out before rise (less_or at (length old.machine.entries)) where
-        by_place : (line : Shown) (p : Pair) (at : ℕ) (entry : Entry) (move : ℕ) (had : ShowsIn old.machine.entries old.machine.moves (list_at sends k) (list_at h.drawns k) d.looks)
-            → map (shown_of new.machine.entries) (list_at sends k) ≡ map Some had.shows → shown_of new.machine.entries (slice_index_or (list_at sends k) j s) ≡ Some line → drawn_of line.job line.outcome ≡ Some p
-            → slice_get new.machine.entries at ≡ Some entry → entry.bearer ≡ k → is_outside entry.event ≡ true → (slice_index_or (list_at sends k) j s).entry < at → IsRiseAt new.machine.moves at move
-            → (at < length old.machine.entries) ⊎ (length old.machine.entries ≤ at) → word_of p < move
-        by_place line p at entry move had now shown draws here by out before rise (inl early) =
-            let there : slice_get old.machine.entries at ≡ Some entry = sym (get_before old.machine.entries came.more at early) ∙ ap (λ l. slice_get l at) (sym came.is) ∙ here in
-            let same = same_each (shown_of old.machine.entries) (shown_of new.machine.entries) (list_at sends k) had.shows had.found now j s in_lines in
-            h.until k j s in_lines line p at entry move (same ∙ shown) draws there by out before (rise_before at entry move there rise)
-        by_place line p at entry move had now shown draws here by out before rise (inr late) =
+  until_now : (k : ℕ) (b : BearerOf F) (lt : k < length w.bearers) → All (IsUntilMove k new.machine.entries new.machine.moves) (slice_index_or w.bearers k b).lines.items
+  until_now k b lt j s in_lines = λ line at entry move shown here by out before rise.
+      below_now k b lt j s in_lines line at entry move shown here by out before (λ behind. rise_seen k b lt at entry move here by behind rise)
+
+  -- what a line of before shows
+  had_at : (k j : ℕ) → j < length (list_at sends k) → ShowsIn old.machine.entries old.machine.moves (list_at sends k) (list_at h.drawns k) d.looks
+  had_at k j in_lines = shows_at old.machine.entries old.machine.moves sends h.drawns d.looks h.shown k j in_lines
+
+  had_now : (k j : ℕ) (in_lines : j < length (list_at sends k)) → map (shown_of new.machine.entries) (list_at sends k) ≡ map Some (had_at k j in_lines).shows
+  had_now k j in_lines =
+      let had = had_at k j in_lines in
+      subst (λ l. map (shown_of l) (list_at sends k) ≡ map Some had.shows) (sym came.is) (found_more old.machine.entries came.more (list_at sends k) had.shows had.found)
+
+  pub shown_before : (k j : ℕ) (s : Sent) → j < length (list_at sends k) → shown_of old.machine.entries (slice_index_or (list_at sends k) j s) ≡ shown_of new.machine.entries (slice_index_or (list_at sends k) j s)
+  shown_before k j s in_lines =
+      let had = had_at k j in_lines in
+      same_each (shown_of old.machine.entries) (shown_of new.machine.entries) (list_at sends k) had.shows had.found (had_now k j in_lines) j s in_lines
+
+  pub entry_before : (at : ℕ) (entry : Entry) → slice_get new.machine.entries at ≡ Some entry → at < length old.machine.entries → slice_get old.machine.entries at ≡ Some entry
+  entry_before at entry here early = sym (get_before old.machine.entries came.more at early) ∙ ap (λ l. slice_get l at) (sym came.is) ∙ here
+
+  -- lines of before, and what the counter came to with an entry of this phase, whoever's: their words are among those that each bearer of this phase
+  -- notes, and the ends that they tell among what it knows
+  pub below_before : (k j : ℕ) (s : Sent) → j < length (list_at sends k) → (line : Shown) → shown_of new.machine.entries (slice_index_or (list_at sends k) j s) ≡ Some line
+      → (m : ℕ) (b : BearerOf F) (lt : m < length w.bearers) (at : ℕ) (entry : Entry) (word : ℕ) → slice_get new.machine.entries at ≡ Some entry → entry.bearer ≡ m → length old.machine.entries ≤ at
+      → IsReachedAt (slice_index_or w.bearers m b).pass.seen at word → IsToldBelow word line
+  below_before k j s in_lines line shown m b lt at entry word here by late reached =
+      let had = had_at k j in_lines in
+      let now = had_now k j in_lines in
+      let mine = (slice_index_or w.bearers m b).drawer in
+      let worked = w.worked m b (omega (arith, lt, w.long)) in
+      let noted : mine.noted ≡ d.noted ++ d.drawn = worked.noted ∙ w.noted m b (omega (arith, lt, w.long)) in
+      let known : mine.known ≡ d.known ++ d.looks = worked.known ∙ w.known m b (omega (arith, lt, w.long)) in
+      let over = (moved_here m b lt at entry here by late).before word reached in
+      let spent = All-contains (λ (x : Shown). IsSpentSeen d.looks x.outcome) had.shows line had.spent (shown_there (shown_of new.machine.entries) (list_at sends k) had.shows now j s in_lines line shown) in
+      record {
+        draws = λ p draws.
             let drawn = subst (λ l. Contains l (word_of p)) had.drawing (drawn_here (shown_of new.machine.entries) (list_at sends k) had.shows now j s in_lines line p shown draws) in
-            let noted : (slice_index_or w.bearers k b).drawer.noted ≡ d.noted ++ d.drawn = (w.worked k b (omega (arith, lt, w.long))).noted ∙ w.noted k b (omega (arith, lt, w.long)) in
-            All-contains (λ x. x < move) (slice_index_or w.bearers k b).drawer.noted (word_of p) ((moved_here k b lt at entry here by late).noted move out (rise_seen k b lt at entry move here by late rise))
-            (subst (λ l. Contains l (word_of p)) (sym noted) (Contains-append_right d.noted d.drawn (word_of p) (within (word_of p) (all_at h.drawns k (word_of p) drawn))))
+            All-contains (λ x. x < word) mine.noted (word_of p) over.noted
+            (subst (λ l. Contains l (word_of p)) (sym noted) (Contains-append_right d.noted d.drawn (word_of p) (within (word_of p) (all_at h.drawns k (word_of p) drawn))));
+        ends = λ end told.
+            let seen = end_seen d.looks line.outcome end spent told in
+            All-contains (IsPast word) mine.known (saw.Counter end) over.known (subst (λ l. Contains l (saw.Counter end)) (sym known) (Contains-append_right d.known d.looks (saw.Counter end) seen));
+      }
+
+  until_before : (k : ℕ) (b : BearerOf F) → k < length w.bearers → All (IsUntilMove k new.machine.entries new.machine.moves) (list_at sends k)
+  until_before k b lt j s in_lines = λ line at entry move shown here by out before rise. by_place line at entry move shown here by out before rise (less_or at (length old.machine.entries)) where
+    by_place : (line : Shown) (at : ℕ) (entry : Entry) (move : ℕ) → shown_of new.machine.entries (slice_index_or (list_at sends k) j s) ≡ Some line
+        → slice_get new.machine.entries at ≡ Some entry → entry.bearer ≡ k → is_outside entry.event ≡ true → (slice_index_or (list_at sends k) j s).entry < at → IsRiseAt new.machine.moves at move
+        → (at < length old.machine.entries) ⊎ (length old.machine.entries ≤ at) → IsToldBelow move line
+    by_place line at entry move shown here by out before rise (inl early) =
+        let there = entry_before at entry here early in
+        h.until k j s in_lines line at entry move (shown_before k j s in_lines ∙ shown) there by out before (rise_before at entry move there rise)
+    by_place line at entry move shown here by out before rise (inr late) =
+        below_before k j s in_lines line shown k b lt at entry move here by late (rise_seen k b lt at entry move here by late rise)
 
   pub until_more : (k : ℕ) → All (IsUntilMove k new.machine.entries new.machine.moves) (list_at (both_of sends (map lines_of dones)) k)
   until_more k = subst (All (IsUntilMove k new.machine.entries new.machine.moves)) (sym (list_at_both sends (map lines_of dones) k)) (by_bearer (less_or k (length w.bearers))) where
@@ -352,9 +466,10 @@ module _ {F : Type 0} (old new : NodeView F) (d e : DrawerView) (events : List (
         subst (All (IsUntilMove k new.machine.entries new.machine.moves)) (sym (ap (λ l. l ++ list_at (map lines_of dones) k) one ∙ other)) (All-nil (IsUntilMove k new.machine.entries new.machine.moves))
 
 -- before any phase there are no lines
+pub no_line : (n k j : ℕ) → j < length (list_at {A = Sent} (replicate n []) k) → ⊥
+no_line zero k j lt = omega (arith, lt)
+no_line (suc n) zero j lt = omega (arith, lt)
+no_line (suc n) (suc k) j lt = no_line n k j lt
+
 pub no_until : (n : ℕ) (moves : List ℕ) (k : ℕ) → All (IsUntilMove k [] moves) (list_at (replicate n []) k)
-no_until n moves k = λ j s lt. absurd (nothing n k j lt) where
-  nothing : (n k j : ℕ) → j < length (list_at {A = Sent} (replicate n []) k) → ⊥
-  nothing zero k j lt = omega (arith, lt)
-  nothing (suc n) zero j lt = omega (arith, lt)
-  nothing (suc n) (suc k) j lt = nothing n k j lt
+no_until n moves k = λ j s lt. absurd (no_line n k j lt)

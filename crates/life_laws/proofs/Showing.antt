@@ -1,5 +1,5 @@
 -- What lines show, among the marks and among the entries.
-use Rattle.std.proofs.Common.{◌≡◌, ℕ, zero, suc, ◌<◌, List, [], ◌∷◌, ◌++◌, length, map, Option, Some, None, refl, arith}
+use Rattle.std.proofs.Common.{◌≡◌, ℕ, zero, suc, ◌<◌, List, [], ◌∷◌, ◌++◌, length, map, Option, Some, None, refl, ap, arith}
 use Rattle.std.specs.Prelude.{option_and_then, replicate, slice_index_or}
 use Rattle.std.specs.List.{slice_get}
 use Rattle.std.specs.Option.{option_map}
@@ -7,42 +7,46 @@ use Rattle.mesh_types.specs.declared.events.Event.{Event}
 use Rattle.mesh_types.specs.declared.history.Entry.{Entry}
 use Rattle.mesh_types.specs.declared.history.Sent.{Sent}
 use Rattle.report_definitions.specs.Record.{Shown, shown_of}
+use Rattle.locked_node.specs.declared.marks.Behind.{Behind}
 use Rattle.locked_node.specs.declared.marks.Mark.{Mark}
 use Rattle.locked_node.specs.declared.marks.Mark.TheVariants as M
-use Rattle.locked_node.specs.Node.{handled_marks, stop_marks}
+use Rattle.locked_node.specs.Node.{first_word, handled_marks, rest_words, stop_marks}
 use Rattle.node_bearer.specs.Marked.{shown_at, shown_in}
 use Rattle.node_bearer.proofs.Lists.{get_longer}
 
 -- An entry that is shown among the marks is among the entries.
-stop_is_none : (k : ℕ) (i : ℕ) (e : Entry) (move : ℕ) → slice_get (replicate k (M.Stopped None)) i ≡ Some (M.Handled e move) → ⊥
-stop_is_none zero i e move h = cc
-stop_is_none (suc k) zero e move h = cc
-stop_is_none (suc k) (suc i) e move h = stop_is_none k i e move h
+stop_is_none : (k : ℕ) (i : ℕ) (e : Entry) (behind : Behind) → slice_get (replicate k (M.Stopped None)) i ≡ Some (M.Handled e behind) → ⊥
+stop_is_none zero i e behind h = cc
+stop_is_none (suc k) zero e behind h = cc
+stop_is_none (suc k) (suc i) e behind h = stop_is_none k i e behind h
 
-unmarked : (es : List Entry) (ms : List ℕ) (k : ℕ) (event : Option Event) (i : ℕ) (e : Entry) (move : ℕ) → slice_get (handled_marks es ms ++ stop_marks k event) i ≡ Some (M.Handled e move) → slice_get es i ≡ Some e
-unmarked [] ms zero event i e move h = cc
-unmarked [] ms (suc k) event zero e move h = cc
-unmarked [] ms (suc k) event (suc i) e move h = absurd (stop_is_none k i e move h)
-unmarked (x ∷ es) [] k event zero e move h = let one : M.Handled x 0 ≡ M.Handled e move = cc in cc
-unmarked (x ∷ es) [] k event (suc i) e move h = unmarked es [] k event i e move h
-unmarked (x ∷ es) (m ∷ ms) k event zero e move h = let one : M.Handled x m ≡ M.Handled e move = cc in cc
-unmarked (x ∷ es) (m ∷ ms) k event (suc i) e move h = unmarked es ms k event i e move h
+unmarked : (es : List Entry) (ms cs : List ℕ) (k : ℕ) (event : Option Event) (i : ℕ) (e : Entry) (behind : Behind) → slice_get (handled_marks es ms cs ++ stop_marks k event) i ≡ Some (M.Handled e behind) → slice_get es i ≡ Some e
+unmarked [] ms cs zero event i e behind h = cc
+unmarked [] ms cs (suc k) event zero e behind h = cc
+unmarked [] ms cs (suc k) event (suc i) e behind h = absurd (stop_is_none k i e behind h)
+unmarked (x ∷ es) ms cs k event zero e behind h =
+    let first : Behind = record { moved = first_word ms; counter = first_word cs } in
+    let both : Some (M.Handled x first) ≡ Some (M.Handled e behind) = h in
+    let one : M.Handled x first ≡ M.Handled e behind = cc in
+    let same : x ≡ e = cc in
+    ap Some same
+unmarked (x ∷ es) ms cs k event (suc i) e behind h = unmarked es (rest_words ms) (rest_words cs) k event i e behind h
 
-shown_mark : (es : List Entry) (ms : List ℕ) (k : ℕ) (event : Option Event) (s : Sent) (y : Shown) (o : Option Mark) → slice_get (handled_marks es ms ++ stop_marks k event) s.entry ≡ o
+shown_mark : (es : List Entry) (ms cs : List ℕ) (k : ℕ) (event : Option Event) (s : Sent) (y : Shown) (o : Option Mark) → slice_get (handled_marks es ms cs ++ stop_marks k event) s.entry ≡ o
     → option_and_then (λ m. shown_at m s) o ≡ Some y → shown_of es s ≡ Some y
-shown_mark es ms k event s y None e h = cc
-shown_mark es ms k event s y (Some (M.Stopped hand)) e h = cc
-shown_mark es ms k event s y (Some (M.Handled x move)) e h = rw (unmarked es ms k event s.entry x move e) h
+shown_mark es ms cs k event s y None e h = cc
+shown_mark es ms cs k event s y (Some (M.Stopped hand)) e h = cc
+shown_mark es ms cs k event s y (Some (M.Handled x behind)) e h = rw (unmarked es ms cs k event s.entry x behind e) h
 
-pub found_entries : (es : List Entry) (ms : List ℕ) (k : ℕ) (event : Option Event) (lines : List Sent) (shows : List Shown) → map (shown_in (handled_marks es ms ++ stop_marks k event)) lines ≡ map Some shows
+pub found_entries : (es : List Entry) (ms cs : List ℕ) (k : ℕ) (event : Option Event) (lines : List Sent) (shows : List Shown) → map (shown_in (handled_marks es ms cs ++ stop_marks k event)) lines ≡ map Some shows
     → map (shown_of es) lines ≡ map Some shows
-found_entries es ms k event [] shows h = h
-found_entries es ms k event (s ∷ lines) [] h = cc
-found_entries es ms k event (s ∷ lines) (y ∷ shows) h =
-    let head : shown_in (handled_marks es ms ++ stop_marks k event) s ≡ Some y = cc in
-    let tail : map (shown_in (handled_marks es ms ++ stop_marks k event)) lines ≡ map Some shows = cc in
-    let one = shown_mark es ms k event s y (slice_get (handled_marks es ms ++ stop_marks k event) s.entry) refl head in
-    let more = found_entries es ms k event lines shows tail in
+found_entries es ms cs k event [] shows h = h
+found_entries es ms cs k event (s ∷ lines) [] h = cc
+found_entries es ms cs k event (s ∷ lines) (y ∷ shows) h =
+    let head : shown_in (handled_marks es ms cs ++ stop_marks k event) s ≡ Some y = cc in
+    let tail : map (shown_in (handled_marks es ms cs ++ stop_marks k event)) lines ≡ map Some shows = cc in
+    let one = shown_mark es ms cs k event s y (slice_get (handled_marks es ms cs ++ stop_marks k event) s.entry) refl head in
+    let more = found_entries es ms cs k event lines shows tail in
     cc
 
 -- more entries

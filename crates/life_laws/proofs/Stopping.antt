@@ -15,7 +15,7 @@ use Rattle.turn_lock.specs.Entries.{added}
 use Rattle.turn_lock.proofs.Kept.{kept_at}
 use Rattle.locked_node.specs.declared.marks.Mark.{Mark}
 use Rattle.locked_node.specs.declared.marks.Mark.TheVariants as M
-use Rattle.locked_node.specs.Node.{NodeView, OnStop, event_in, handled_marks, node_marks, stop_marks}
+use Rattle.locked_node.specs.Node.{NodeView, OnStop, event_in, handled_marks, node_marks, rest_words, stop_marks}
 use Rattle.node_bearer.specs.Did.{AreMarksAt, BearerOf, Broke}
 use Rattle.node_phase.specs.declared.bearers.Done.{Done}
 use Rattle.node_phase.specs.Part.{AreThrough}
@@ -25,27 +25,24 @@ use Rattle.life_laws.specs.Stopped.{HasStopped}
 use Rattle.life_laws.proofs.Placing.{CameTo, came_to}
 
 abbrev pub is_stop : ℕ × Mark → Bool
-is_stop (at, M.Handled e move) = false
+is_stop (at, M.Handled e behind) = false
 is_stop (at, M.Stopped hand) = true
 
 no_stop : (own : List (ℕ × Mark)) (ps : List Placed) → AreMarksAt own ps → filter is_stop own ≡ []
 no_stop [] [] h = refl
 no_stop [] (p ∷ ps) h = absurd h
 no_stop (x ∷ own) [] h = absurd h
-no_stop (x ∷ own) (p ∷ ps) (move, is, rest) = ap (λ y. filter is_stop (y ∷ own)) is ∙ no_stop own ps rest
+no_stop (x ∷ own) (p ∷ ps) (behind, is, rest) = ap (λ y. filter is_stop (y ∷ own)) is ∙ no_stop own ps rest
 
 -- a list with a stop mark keeps something
-some_stop : (n : ℕ) (es : List Entry) (ms : List ℕ) (k : ℕ) (event : Option Event) → filter is_stop (enumerate_from n (handled_marks es ms ++ stop_marks (suc k) event)) ≡ [] → ⊥
-some_stop n [] ms k event h = cc
-some_stop n (e ∷ es) [] k event h = some_stop (n + 1) es [] k event h
-some_stop n (e ∷ es) (m ∷ ms) k event h = some_stop (n + 1) es ms k event h
+some_stop : (n : ℕ) (es : List Entry) (ms cs : List ℕ) (k : ℕ) (event : Option Event) → filter is_stop (enumerate_from n (handled_marks es ms cs ++ stop_marks (suc k) event)) ≡ [] → ⊥
+some_stop n [] ms cs k event h = cc
+some_stop n (e ∷ es) ms cs k event h = some_stop (n + 1) es (rest_words ms) (rest_words cs) k event h
 
-handled_only : (n : ℕ) (es : List Entry) (ms : List ℕ) (at : ℕ) (hand : Option Event) → Contains (enumerate_from n (handled_marks es ms)) (at, M.Stopped hand) → ⊥
-handled_only n [] ms at hand (k, lt, e) = absurd (omega (arith, lt))
-handled_only n (x ∷ es) [] at hand (zero, lt, e) = true≢false (sym (ap is_stop e))
-handled_only n (x ∷ es) [] at hand (suc k, lt, e) = handled_only (n + 1) es [] at hand (k, omega (arith, lt), e)
-handled_only n (x ∷ es) (m ∷ ms) at hand (zero, lt, e) = true≢false (sym (ap is_stop e))
-handled_only n (x ∷ es) (m ∷ ms) at hand (suc k, lt, e) = handled_only (n + 1) es ms at hand (k, omega (arith, lt), e)
+handled_only : (n : ℕ) (es : List Entry) (ms cs : List ℕ) (at : ℕ) (hand : Option Event) → Contains (enumerate_from n (handled_marks es ms cs)) (at, M.Stopped hand) → ⊥
+handled_only n [] ms cs at hand (k, lt, e) = absurd (omega (arith, lt))
+handled_only n (x ∷ es) ms cs at hand (zero, lt, e) = true≢false (sym (ap is_stop e))
+handled_only n (x ∷ es) ms cs at hand (suc k, lt, e) = handled_only (n + 1) es (rest_words ms) (rest_words cs) at hand (k, omega (arith, lt), e)
 
 get_or-default : {A : Type 0} (xs : List A) (k : ℕ) (d e : A) → k < length xs → slice_index_or xs k d ≡ slice_index_or xs k e
 get_or-default [] k d e lt = absurd (omega (arith, lt))
@@ -87,8 +84,8 @@ module _ {F : Type 0} (old new : NodeView F) (d e : DrawerView) (events : List (
   none_by through zero is = is
   none_by through (suc k) is =
       let kept : filter is_stop (added (node_marks old) (node_marks new)) ≡ [] = w.kept is_stop [] (kept_at is_stop 0 lists [] [] (omega (arith, lists_long)) refl (quiet_lists through)) in
-      let marks = came.marks ∙ ap (λ n. enumerate_from (length old.machine.entries) (handled_marks came.more came.moves ++ stop_marks n (event_in new.machine.hand))) is in
-      absurd (some_stop (length old.machine.entries) came.more came.moves k (event_in new.machine.hand) (ap (filter is_stop) (sym marks) ∙ kept))
+      let marks = came.marks ∙ ap (λ n. enumerate_from (length old.machine.entries) (handled_marks came.more came.moves came.counters ++ stop_marks n (event_in new.machine.hand))) is in
+      absurd (some_stop (length old.machine.entries) came.more came.moves came.counters k (event_in new.machine.hand) (ap (filter is_stop) (sym marks) ∙ kept))
 
   pub none_stopped : AreThrough dones → new.stops ≡ 0
   none_stopped through = none_by through new.stops refl
@@ -100,9 +97,9 @@ module _ {F : Type 0} (old new : NodeView F) (d e : DrawerView) (events : List (
   some_by zero is j b lt at hand before own =
       let mine = subst (λ l. Contains l (at, M.Stopped hand)) (sym own) (Contains-append_right before ((at, M.Stopped hand) ∷ []) (at, M.Stopped hand) (0, omega arith, refl)) in
       let here = (w.holds j b lt).has (at, M.Stopped hand) mine in
-      let marks = came.marks ∙ ap (λ n. enumerate_from (length old.machine.entries) (handled_marks came.more came.moves ++ stop_marks n (event_in new.machine.hand))) is
-      ∙ ap (enumerate_from (length old.machine.entries)) (append-nil (handled_marks came.more came.moves)) in
-      absurd (handled_only (length old.machine.entries) came.more came.moves at hand (subst (λ l. Contains l (at, M.Stopped hand)) marks here))
+      let marks = came.marks ∙ ap (λ n. enumerate_from (length old.machine.entries) (handled_marks came.more came.moves came.counters ++ stop_marks n (event_in new.machine.hand))) is
+      ∙ ap (enumerate_from (length old.machine.entries)) (append-nil (handled_marks came.more came.moves came.counters)) in
+      absurd (handled_only (length old.machine.entries) came.more came.moves came.counters at hand (subst (λ l. Contains l (at, M.Stopped hand)) marks here))
 
   stopped_at : (j : ℕ) (b : BearerOf F) → j < length w.bearers → (s : Stop) → (slice_index_or w.bearers j b).stop ≡ Some s → OnStop s (Broke j (slice_index_or w.before j b).number (map handle (list_at events j)) (slice_index_or w.bearers j b)) → (s ≡ S.Closed) ⊎ (s ≡ S.Flash) → 0 < new.stops
   stopped_at j b lt S.Closed is broke cause = some_by new.stops refl j b lt broke.is.at broke.is.hand broke.is.before broke.is.own

@@ -21,10 +21,10 @@ use Rattle.life_laws.specs.Phases.{AreOrdered}
 -- a life that was run
 abbrev pub RunLife : Role → Type 0
 RunLife role =
-    (plan : List Step) (over next : List StoreRecord) (told : List Told) (l : Life) (hand : Hand)
+    (plan : List Step) (over next : List StoreRecord) (told : List Told) (l : Life) (hand : Hand) (ends : List ℕ)
     → (config_of over).reset ≡ false → l.opened ≡ Opens.On (config_of over).iv (config_of over).mark
     → map (λ t. t.entry) told ≡ l.entries → AreHandled role over [] told → ((k : ℕ) → IsNumbered l k)
-    → AreOrdered (is_cut l.end) (phases_of plan) l.entries l.sends
+    → AreOrdered (is_cut l.end) (phases_of plan) l.entries l.sends ends
     → IsLeftBy role (past_now role over told l.refills) hand next
     → ((hand ≡ Hands.Nothing) ⊎ (is_cut l.end ≡ true))
     → ((event : Event) → hand ≡ Hands.OfEvent event → is_outside event ≡ true

@@ -1,5 +1,5 @@
 -- Phases that are through, and one more.
-use Rattle.std.specs.Prelude.{◌≡◌, ℕ, ◌==◌, Bool, List, [], ◌∷◌, ◌++◌, map, length}
+use Rattle.std.specs.Prelude.{◌≡◌, ℕ, ◌+◌, ◌==◌, Bool, List, [], ◌∷◌, ◌++◌, map, length}
 use Rattle.std.specs.List.{filter, flat_map, range_with_len}
 use Rattle.mesh_types.specs.declared.events.Event.{Event}
 use Rattle.mesh_types.specs.declared.history.Entry.{Entry}
@@ -32,17 +32,24 @@ both_of [] ys = ys
 both_of (x ∷ xs) [] = x ∷ xs
 both_of (x ∷ xs) (y ∷ ys) = (x ++ y) ∷ both_of xs ys
 
--- These phases are through: each bearer did all that it had, in these parts.
+-- behind so many entries each of these parts ends, where so many come before the first
+abbrev pub ends_of : ℕ → List Part → List ℕ
+ends_of n [] = []
+ends_of n (part ∷ parts) = (n + length part.entries) ∷ ends_of (n + length part.entries) parts
+
+-- These phases are through: each bearer did all that it had, in these parts, which end behind so many entries.
 pub record AreDone (phases : List (List (List Event))) (entries : List Entry) (sends : List (List Sent))
-    (counts : List ℕ) : Type 0 where
+    (counts ends : List ℕ) : Type 0 where
   pub parts : List Part
+  pub ends_are : ends ≡ ends_of 0 parts
   pub done : PhasesDone phases parts
   pub fall : FallInto entries sends parts
   pub numbered : (k : ℕ) → AreNumbered entries counts k
 
--- Of a life with these phases, broken off or not: its entries and lines fall into the parts of its phases.
+-- Of a life with these phases, broken off or not: its entries and lines fall into the parts of its phases, which end behind so many entries.
 pub record AreOrdered (is_cut : Bool) (phases : List (List (List Event))) (entries : List Entry)
-    (sends : List (List Sent)) : Type 0 where
+    (sends : List (List Sent)) (ends : List ℕ) : Type 0 where
   pub parts : List Part
+  pub ends_are : ends ≡ ends_of 0 parts
   pub fall : FallInto entries sends parts
   pub parts_are : PartsOf is_cut phases parts

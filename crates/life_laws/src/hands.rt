@@ -29,8 +29,8 @@ pub fn hands_law<F>()
         → IsNextIn (phases ++ events ∷ rest) new.machine.entries event }
     // what that bearer left begins with it, so it left no line of an event before
     ensures hand { (phases rest : List (List (List Event))) (old new : NodeView F) (d e : DrawerView)
-        (events : List (List Event)) (counts : List ℕ) (dones : List Done) (sends : List (List Sent))
-        → AreDone phases old.machine.entries sends counts → WasPhase old new d e events counts dones → HadMemory dones
+        (events : List (List Event)) (counts ends : List ℕ) (dones : List Done) (sends : List (List Sent))
+        → AreDone phases old.machine.entries sends counts ends → WasPhase old new d e events counts dones → HadMemory dones
         → length events ≤ length counts → old.stops ≡ 0
         → 0 < new.stops → (event : Event) → event_in new.machine.hand ≡ Some event → is_outside event ≡ true
         → IsInHand (phases ++ events ∷ rest) new.machine.entries (both_of sends (map lines_of dones)) event }

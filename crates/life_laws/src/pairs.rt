@@ -1,7 +1,7 @@
 //! The pairs that the lines of several phases draw.
 #![tactic(auto)]
 
-ghost use Rattle.std.specs.Prelude.{◌≡◌, ℕ, ◌<◌, ◌≤◌, List, [], All, length, map, replicate};
+ghost use Rattle.std.specs.Prelude.{◌≡◌, ℕ, ◌<◌, ◌≤◌, List, [], ◌∷◌, ◌++◌, All, length, map, replicate};
 ghost use Rattle.std.specs.List.{Contains};
 ghost use Rattle.mesh_types.specs.declared.events.Event.{Event};
 ghost use Rattle.mesh_types.specs.declared.history.Entry.{Entry};
@@ -17,7 +17,7 @@ ghost use Rattle.locked_node.specs.Node.{NodeView};
 ghost use Rattle.node_phase.specs.declared.bearers.Done.{Done};
 ghost use Rattle.node_phase.specs.Part.{HadMemory, lines_of};
 ghost use Rattle.node_phase.specs.Worked.{WasPhase};
-ghost use Rattle.life_laws.specs.Pairs.{IsFromMove, PairsSo};
+ghost use Rattle.life_laws.specs.Pairs.{AreTimed, IsFromMove, PairsSo};
 ghost use Rattle.life_laws.specs.Phases.{both_of};
 
 /// The lines of a life draw the words that were drawn at its seats: before any phase, and with one phase more.
@@ -29,6 +29,19 @@ pub fn pairs_law<F>()
         → PairsSo old.machine.entries old.machine.moves sends d → WasPhase old new d e events counts dones → HadMemory dones
         → old.stops ≡ 0 → length sends ≡ length counts → length new.machine.moves ≡ length new.machine.entries
         → PairsSo new.machine.entries new.machine.moves (both_of sends (map lines_of dones)) e }
+{}
+
+/// And they are timed: each phase more ends behind all entries that there are then.
+pub fn times_law<F>()
+    ensures none { (bearers : ℕ) → AreTimed [] [] [] (replicate bearers []) }
+    ensures more { (old new : NodeView F) (d e : DrawerView) (events : List (List Event)) (counts ends : List ℕ)
+        (dones : List Done) (sends : List (List Sent))
+        → AreTimed old.machine.entries old.counters ends sends
+        → PairsSo old.machine.entries old.machine.moves sends d → WasPhase old new d e events counts dones → HadMemory dones
+        → old.stops ≡ 0 → length sends ≡ length counts → length new.machine.moves ≡ length new.machine.entries
+        → length new.counters ≡ length new.machine.entries
+        → AreTimed new.machine.entries new.counters (ends ++ length new.machine.entries ∷ [])
+        (both_of sends (map lines_of dones)) }
 {}
 
 /// So they are the pairs of a life that opened over the one list of records and leaves the other, where each drawn word lies between the

@@ -93,6 +93,7 @@ module _ {S E K F : Type 0} (clocked : Bool) (left : S → Option (List ℕ)) (s
         paid = lived.paid;
         from_moves = lived.from;
         until = lived.until;
+        timed = lived.timed;
         hand = lived.hand;
         life = lived.life;
         wrote = subst (λ o. tells o lived.did before (view sink)) is wrote;

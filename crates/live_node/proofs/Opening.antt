@@ -1,9 +1,10 @@
 -- What a life leaves that is given up before its first phase.
-use Rattle.std.proofs.Common.{◌≡◌, ◌∙◌, ℕ, Bool, true, false, if◌then◌else◌, List, [], ◌∷◌, Option, map, inl, inr, refl, sym, ap, ap₂, subst}
+use Rattle.std.proofs.Common.{◌≡◌, ◌∙◌, ℕ, Bool, true, false, if◌then◌else◌, List, [], ◌∷◌, Option, map, inl, inr, refl, sym, ap, ap₂, subst, arith}
 use Rattle.event_definitions.specs.Handling.{records_left}
 use Rattle.event_definitions.specs.History.{Told}
 use Rattle.event_definitions.specs.Role.{Role}
 use Rattle.flash_model.specs.Chip.{Chip, Keeps}
+use Rattle.flash_model.proofs.Runs.{keeps_none, stays_none}
 use Rattle.machine_contract.specs.Opening.{FlashFound, IsLeft, IsUnwritten, MigratesOnly, found_of}
 use Rattle.machine_contract.specs.Refused.{IsUntouched, WasReset}
 use Rattle.machine_contract.specs.Standing.{IsLeftBy, IsLifeSoFar, past_now}
@@ -67,6 +68,25 @@ pub unopened_over : (role : Role) (image : List ℕ → Type 0) (hex : Bool) (be
     → Unopened image start new from to before after → (why : WriteStop) → (why ≡ stop.Memory → after ≡ before) → EndsOver role image hex bearers clocked start from to before after Stood (stop_status why) false new
 unopened_over role image hex bearers clocked start new from to before after Stood u stop.Fault still = inl (refl, u)
 unopened_over role image hex bearers clocked start new from to before after Stood u stop.Memory still = inl (refl, u, still refl)
+
+-- a flash that nothing was asked of, and streams that are as they were
+pub nothing_asked : (image : List ℕ → Type 0) (start : Chip) (at : StreamsAt) (sink : SinkView) → Unopened image start start at at sink sink
+nothing_asked image start at sink = record {
+  wrote = inl refl;
+  unread = refl;
+  kept = keeps_none start;
+  no_fault = refl;
+  untouched = inl (record { honest = refl; stays = λ image h. h; now = refl; faults = refl; began = refl; count = refl; reads = refl });
+  writes = record {
+    unwritten = λ _. record { stays = stays_none start; no_calls = refl };
+    most_calls = omega arith;
+    most_erases = omega arith;
+    most_octets = omega arith;
+    most_reads = omega arith;
+    once = omega arith;
+  };
+  reset = λ _. record { stays = stays_none start; no_calls = refl };
+}
 
 -- streams that have the same source, and the same sink for lines that are wrong
 pub same_streams : {A E K : Type 0} (left : A → Option (List ℕ)) (source_faults : A → ℕ) (time : A → ℕ) (held : E → Option (List ℕ)) (pieces : E → Option (List (List ℕ))) (sink_faults : E → ℕ) (old new : Streams A E K)

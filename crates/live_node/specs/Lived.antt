@@ -28,6 +28,7 @@ use Rattle.store_definitions.specs.Recovered.{IsRecovered}
 use Rattle.store_definitions.specs.Wear.{MOUNT_READS}
 use Rattle.locked_node.specs.Stands.{IsLater}
 use Rattle.mesh_node.specs.Lived.{IsAllTold, IsLifeTold, life_told}
+use Rattle.mesh_node.specs.Timed.{IsTimed}
 use Rattle.mesh_node.specs.Told.{ArePlaced, AreToldEach, BySteps, PhaseDid, entries_told, sends_told}
 use Rattle.node_bearer.specs.Did.{AreEvents}
 use Rattle.live_lines.specs.Moves.{LinesAt}
@@ -184,6 +185,8 @@ module _ (Stood : Standing) (role : Role) (image : List ℕ → Type 0) (hex : B
     pub from_moves : All (All (IsFromMove (entries_told did) all.machine.moves)) (sends_told bearers did)
     -- nor does one draw a word at or above where it was moved to with a later event from outside of its bearer
     pub until : (k : ℕ) → All (IsUntilMove k (entries_told did) all.machine.moves) (list_at (sends_told bearers did) k)
+    -- and what each line draws lies between where the counter was behind its entry, and behind the entries that come behind it
+    pub timed : IsTimed closed phases (config_of over).mark (entries_told did) all.machine.moves (sends_told bearers did)
     -- an event from outside that its machine has in hand comes behind all lines of its bearer's events before
     pub hand : HoldsNext phases (entries_told did) (sends_told bearers did) all.machine
     -- without a phase nothing was written but what a migration of format 01 writes

@@ -44,10 +44,12 @@ use Rattle.life_laws.specs.Plan.{HasOneArm, life_of, steps_of}
 use Rattle.mesh_node.specs.Ran.{Ran}
 use Rattle.mesh_node.specs.Steps.{HasGiven, IsGiven, IsOfPlan, first_order}
 use Rattle.mesh_node.specs.Left.{Closes}
+use Rattle.mesh_node.specs.Timed.{IsTimed}
 use Rattle.mesh_node.proofs.Drawn.{tells_words}
 use Rattle.mesh_node.proofs.Ending.{each_life, holds_next}
 use Rattle.mesh_node.proofs.Giving.{given_one, last_torn, reached_some, within_none}
 use Rattle.mesh_node.proofs.Printing.{idle_printable, sends_short}
+use Rattle.mesh_node.proofs.Timing.{timed_of}
 
 -- nothing was read before an event was handled
 abbrev pub IsUnread : LifeLog → Type 0
@@ -106,7 +108,7 @@ module _ {M F : Type 0} (view : M → MachineView) (stands : FlashFound → Chip
     (bearers : ℕ) (few : bearers ≤ 8) (many : length log.sends.items ≡ bearers)
     (explained : IsExplained (chip node.flash)) (given : node.stops ≡ 0 → HasGiven plan (chip node.flash).setting.arm)
     (arm : IsOfPlan plan (chip node.flash).setting.arm)
-    (placed : (over : List StoreRecord) → IsRecovered (chip start).now over → IfSome (chip node.flash).setting.arm (WasGiven view (stands (found_of (chip start))) chip over node.machine plan)) (calls : IfSome (cut_calls log.end) (λ n. n ≡ (chip node.flash).changes))
+    (placed : (over : List StoreRecord) → IsRecovered (chip start).now over → IfSome (chip node.flash).setting.arm (WasGiven view (stands (found_of (chip start))) chip over node.machine (life_of log).sends plan)) (calls : IfSome (cut_calls log.end) (λ n. n ≡ (chip node.flash).changes))
     (saved : (chip node.flash).setting.saved ≡ (chip start).setting.saved) where
   begun_is : begun ≡ h.over
   begun_is = one (chip start).now begun h.over read (subst (λ s. IsRecovered (chip s).now h.over) is_start h.read)
@@ -131,6 +133,15 @@ module _ {M F : Type 0} (view : M → MachineView) (stands : FlashFound → Chip
 
   held_over : held.over ≡ h.over
   held_over = one (chip start).now held.over h.over (subst (λ s. IsRecovered (chip s).now held.over) is_start held.read) read_over
+
+  -- where the counter was behind what the log tells
+  timed_log : IsTimed (is_cut log.end) (phases_of plan) (opened_at log.opened) (life_of log).entries node.machine.moves (life_of log).sends
+  timed_log =
+      let whole = timed_of role image chip (phases_of plan) node d (life_of log).sends h over in
+      let told = subst (λ (es : List Entry). IsTimed node.machine.closed (phases_of plan) (config_of h.over).mark es node.machine.moves (life_of log).sends) (sym entries) whole in
+      let mark : opened_at log.opened ≡ (config_of h.over).mark = ap opened_at opened ∙ ap (λ o. (config_of o).mark) begun_is in
+      subst (λ b. IsTimed b (phases_of plan) (opened_at log.opened) (life_of log).entries node.machine.moves (life_of log).sends) (sym cut)
+      (subst (λ m. IsTimed node.machine.closed (phases_of plan) m (life_of log).entries node.machine.moves (life_of log).sends) (sym mark) told)
 
   pub ran : Ran view stands chip role image plan (chip start) log node.flash
   ran = record {
@@ -161,13 +172,14 @@ module _ {M F : Type 0} (view : M → MachineView) (stands : FlashFound → Chip
       refills = ap (λ m. m.fills) held.shows ∙ sym refills;
       closed = ap (λ m. m.closed) held.shows ∙ sym cut;
     };
-    given = subst (λ m. IfSome (chip node.flash).setting.arm (WasGiven view (stands (found_of (chip start))) chip h.over m plan)) (sym held.shows) (placed h.over read_over);
+    given = subst (λ m. IfSome (chip node.flash).setting.arm (WasGiven view (stands (found_of (chip start))) chip h.over m (life_of log).sends plan)) (sym held.shows) (placed h.over read_over);
     paid = subst (λ m. IsLifeSoFar role image (found_of (chip start)) (chip node.flash) h.over m) (sym held.shows)
         (subst (λ s. IsLifeSoFar role image (found_of (chip s)) (chip node.flash) h.over node.machine) is_start h.life);
     from = subst (λ (m : MachineView). All (All (IsFromMove (life_of log).entries m.moves)) (life_of log).sends) (sym held.shows)
         (subst (λ (es : List Entry). All (All (IsFromMove es node.machine.moves)) (life_of log).sends) (sym entries)
         (from_all node.machine.entries node.machine.moves (life_of log).sends over.pairs.drawns d.looks over.pairs.shown));
     until = subst (λ (m : MachineView). (k : ℕ) → All (IsUntilMove k (life_of log).entries m.moves) (list_at (life_of log).sends k)) (sym held.shows) pairs.until;
+    timed = subst (λ (m : MachineView). IsTimed (is_cut log.end) (phases_of plan) (opened_at log.opened) (life_of log).entries m.moves (life_of log).sends) (sym held.shows) timed_log;
     hand = subst (λ (m : MachineView). HoldsNext (phases_of plan) (life_of log).entries (life_of log).sends m) (sym held.shows)
         (subst (λ (es : List Entry). HoldsNext (phases_of plan) es (life_of log).sends node.machine) (sym entries) (holds_next role image chip (phases_of plan) node d (life_of log).sends h over));
     on = ap is_on opened;
@@ -234,10 +246,11 @@ module _ {M F : Type 0} (view : M → MachineView) (stands : FlashFound → Chip
           refills = r.told.refills;
           closed = r.told.closed;
         };
-        given = λ on. subst (λ f. IfSome new.setting.arm (WasGiven view (stands f) chip r.over (view r.told.machine) plan)) found r.given;
+        given = λ on. subst (λ f. IfSome new.setting.arm (WasGiven view (stands f) chip r.over (view r.told.machine) (life_of log).sends plan)) found r.given;
         paid = λ on. subst (λ f. IsLifeSoFar role image f new r.over (view r.told.machine)) found r.paid;
         from = λ on. r.from;
         until = λ on. r.until;
+        timed = λ on. r.timed;
         hand = λ on. r.hand;
         early = λ off. absurd (true≢false (sym r.on ∙ off));
       }
@@ -280,6 +293,7 @@ module _ {M F : Type 0} (view : M → MachineView) (stands : FlashFound → Chip
         paid = λ on. absurd (true≢false (sym on ∙ off));
         from = λ on. absurd (true≢false (sym on ∙ off));
         until = λ on. absurd (true≢false (sym on ∙ off));
+        timed = λ on. absurd (true≢false (sym on ∙ off));
         hand = λ on. absurd (true≢false (sym on ∙ off));
         early = λ off. early;
       }

@@ -65,9 +65,9 @@ module _ {F : Type 0} (role : Role) (image : List ℕ → Type 0) (chip : F → 
       let left = h.life.left content after is_image recovers in
       let high : mark ≤ (config_of after).mark = subst (λ m. m ≤ (config_of after).mark) (sym marks) left.1 in
       let pairs = subst (λ es. PairsSo es node.machine.moves l.sends d) (sym entries) (subst (λ ss. PairsSo node.machine.entries node.machine.moves ss d) (sym lines) over.pairs) in
-      life_of role plan h.over after h.life.told l node.machine.hand runs opened (h.life.entries ∙ sym entries) h.life.handled
+      life_of role plan h.over after h.life.told l node.machine.hand over.ends runs opened (h.life.entries ∙ sym entries) h.life.handled
       (λ k. subst (λ es. map (λ e. e.number) (entries_by k es) ≡ range_with_len 1 (length (entries_by k es))) (sym entries) (over.numbers k))
-      (subst (λ es. AreOrdered (is_cut l.end) (phases_of plan) es l.sends) (sym entries) (subst (λ ss. AreOrdered (is_cut l.end) (phases_of plan) node.machine.entries ss) (sym lines) (over.ordered (is_cut l.end) cut_stops)))
+      (subst (λ es. AreOrdered (is_cut l.end) (phases_of plan) es l.sends over.ends) (sym entries) (subst (λ ss. AreOrdered (is_cut l.end) (phases_of plan) node.machine.entries ss over.ends) (sym lines) (over.ordered (is_cut l.end) cut_stops)))
       (subst (λ n. IsLeftBy role (past_now role h.over h.life.told n) node.machine.hand after) (sym refills) left.0) hand_cut in_hand
       (is_drawn h.over after l node.machine.moves d pairs from (λ k x lt. let low : slice_index_or d.drawn k x < next = below k x lt in omega (arith, low, order, high)) once)
       (is_spent h.over after l node.machine.moves d pairs (λ word c. let low : word ≤ next = All-contains (IsWithin next mark) d.looks (saw.Counter word) seen c in omega (arith, low, order, high)) ends)

@@ -14,11 +14,12 @@ use Rattle.run_definitions.specs.Order.{Step, phase_of, phases_of}
 use Rattle.seq_word.specs.Seen.{DrawerView}
 use Rattle.seq_word.specs.Rule.{times}
 use Rattle.life_laws.specs.Hands.{AreHandledAll}
-use Rattle.life_laws.specs.Pairs.{PairsSo}
+use Rattle.life_laws.specs.Pairs.{AreTimed, PairsSo}
 use Rattle.life_laws.specs.Phases.{AreDone}
 use Rattle.life_laws.proofs.Ordering.{none_done, ordered}
 use Rattle.life_laws.proofs.Pairing.{empty_all, no_ends, no_pairs}
 use Rattle.life_laws.proofs.Rising.{no_until}
+use Rattle.life_laws.proofs.Timing.{no_times}
 use Rattle.life_laws.specs.declared.plan.PlanStep.{PlanStep}
 use Rattle.life_laws.specs.declared.plan.PlanStep.TheVariants as P
 use Rattle.mesh_node.specs.Going.{IsGoing, IsOver}
@@ -36,12 +37,14 @@ zero_at zero k = refl
 zero_at (suc n) zero = refl
 zero_at (suc n) (suc k) = zero_at n k
 
-pub going_first : {F : Type 0} (node : NodeView F) (d : DrawerView) (n : ℕ) (sends : List (List Sent)) (counts : List ℕ) → node.machine.entries ≡ [] → node.stops ≡ 0 → d.drawn ≡ []
+pub going_first : {F : Type 0} (node : NodeView F) (d : DrawerView) (n : ℕ) (sends : List (List Sent)) (counts : List ℕ) → node.machine.entries ≡ [] → node.counters ≡ [] → node.stops ≡ 0 → d.drawn ≡ []
     → sends ≡ replicate n [] → counts ≡ replicate n 0 → IsGoing [] node d sends counts
-going_first node d n sends counts entries live drawn no_sends no_counts =
+going_first node d n sends counts entries uncounted live drawn no_sends no_counts =
     let first : IsGoing [] node d (replicate n []) (replicate n 0) = record {
-      done = subst (λ es. AreDone [] es (replicate n []) (replicate n 0)) (sym entries) (none_done (replicate n []) (replicate n 0) (empty_at n) (zero_at n));
+      ends = [];
+      done = subst (λ es. AreDone [] es (replicate n []) (replicate n 0) []) (sym entries) (none_done (replicate n []) (replicate n 0) (empty_at n) (zero_at n));
       pairs = subst (λ es. PairsSo es node.machine.moves (replicate n []) d) (sym entries) (record { drawns = replicate n []; shown = no_pairs n node.machine.moves d.looks; counted = λ x. ap (times x) (empty_all n ∙ sym drawn); own = no_ends n d.looks; until = λ k. no_until n node.machine.moves k; long = omega arith });
+      timed = subst (λ es. AreTimed es node.counters [] (replicate n [])) (sym entries) (subst (λ cs. AreTimed [] cs [] (replicate n [])) (sym uncounted) (no_times n));
       handled = subst (AreHandledAll []) (sym entries) (λ k. refl);
       live = live;
       many = length-replicate n [] ∙ sym (length-replicate n 0);
@@ -51,9 +54,11 @@ going_first node d n sends counts entries live drawn no_sends no_counts =
 -- all steps are done
 pub over_whole : {F : Type 0} (phases : List (List (List Event))) (node : NodeView F) (d : DrawerView) (sends : List (List Sent)) (counts : List ℕ) → IsGoing phases node d sends counts → IsOver phases node d sends
 over_whole phases node d sends counts h = record {
-  ordered = λ is_cut cut. ordered is_cut phases node.machine.entries sends counts h.done;
+  ends = h.ends;
+  ordered = λ is_cut cut. ordered is_cut phases node.machine.entries sends counts h.ends h.done;
   numbers = λ k. (h.done.numbered k).numbers;
   pairs = h.pairs;
+  timed = h.timed;
   next = λ some event hand out. absurd (let none : node.stops ≡ 0 = h.live in omega (arith, some, none));
   hand = λ some event hand out. absurd (let none : node.stops ≡ 0 = h.live in omega (arith, some, none));
 }

@@ -21,6 +21,7 @@ use Rattle.mesh_node.proofs.Asking.{due_any}
 use Rattle.mesh_node.proofs.Following.{going_first, over_whole}
 use Rattle.mesh_node.proofs.Stepping.{length_both}
 use Rattle.mesh_node.proofs.Telling.{each_last, each_more, entries_more, placed_more, sends_more}
+use Rattle.mesh_node.proofs.Timing.{uncounted}
 
 -- a held life of these
 abbrev pub held_view : {F : Type 0} → NodeView F → NumbersView → DrawerView → List ℕ → HeldView F
@@ -46,7 +47,7 @@ module _ {F : Type 0} (role : Role) (image : List ℕ → Type 0) (chip : F → 
   pub held_first : (life : HeldView F) (over : List StoreRecord) → IsRecovered (chip life.node.start).now over → (config_of over).reset ≡ false → life.numbers.opened ≡ (config_of over).mark → IsNode role image chip life.node
       → life.node.machine.entries ≡ [] → life.node.machine.taken ≡ length life.node.machine.entries → life.node.stops ≡ 0 → life.drawer.drawn ≡ [] → life.counts ≡ replicate 1 0 → HasLived role image chip life [] []
   held_first life over read runs opened known none taken live drawn zeros =
-      let going : IsGoing [] life.node life.drawer (sends_told 1 []) life.counts = going_first life.node life.drawer 1 (sends_told 1 []) life.counts none live drawn refl zeros in
+      let going : IsGoing [] life.node life.drawer (sends_told 1 []) life.counts = going_first life.node life.drawer 1 (sends_told 1 []) life.counts none (uncounted role image chip life.node known none) live drawn refl zeros in
       record {
         over = over;
         read = read;
@@ -158,7 +159,7 @@ module _ {F : Type 0} (role : Role) (image : List ℕ → Type 0) (chip : F → 
       placed = h.placed;
       each = h.each;
       many = h.many;
-      ordered = record { ordered = h.ordered.ordered; numbers = h.ordered.numbers; pairs = h.ordered.pairs; next = h.ordered.next; hand = h.ordered.hand };
-      going = λ off. let going = h.going off in record { done = going.done; pairs = going.pairs; handled = going.handled; live = going.live; many = going.many };
+      ordered = record { ends = h.ordered.ends; ordered = h.ordered.ordered; numbers = h.ordered.numbers; pairs = h.ordered.pairs; timed = h.ordered.timed; next = h.ordered.next; hand = h.ordered.hand };
+      going = λ off. let going = h.going off in record { ends = going.ends; done = going.done; pairs = going.pairs; timed = going.timed; handled = going.handled; live = going.live; many = going.many };
       through = h.through;
     }

@@ -1,4 +1,5 @@
 pub mod Taking
+pub mod Growing
 pub mod Stepping
 pub mod Following
 pub mod Ending
@@ -16,3 +17,4 @@ pub mod Phasing
 pub mod Holding
 pub mod HandedOn
 pub mod Moving
+pub mod Timing

@@ -11,8 +11,10 @@ use Rattle.machine_contract.specs.declared.answers.Hand.TheVariants as H
 use Rattle.node_limits.specs.declared.TheConstants.{BEARERS}
 use Rattle.run_definitions.specs.Order.{Does, Part, Placed, placed_from}
 use Rattle.seq_word.specs.Seen.{DrawerView}
+use Rattle.store_definitions.specs.Config.{config_of}
 use Rattle.locked_node.specs.Node.{NodeView, origin_of}
 use Rattle.locked_node.specs.Stands.{IsNode}
+use Rattle.locked_node.proofs.Counting.{counters_long}
 use Rattle.locked_node.proofs.Told.{moves_long}
 use Rattle.machine_contract.specs.Opening.{found_of}
 use Rattle.node_phase.specs.declared.bearers.Done.{Done}
@@ -116,11 +118,16 @@ module _ {F M Reader Reading : Type 0} {role : Role} {image : List ℕ → Type 
         later = k.later;
         asked = k.asked;
         taken = omega arith;
+        counted = record { rise = k.counted.rise; within = k.counted.within; mark = k.counted.mark };
       })
 
   -- each entry has a move behind it
   moved_is : length new.machine.moves ≡ length new.machine.entries
   moved_is = moves_long role image (found_of (chip new.start)) (chip new.flash) p.known.over new.machine p.known.life
+
+  -- and the counter was looked at behind each
+  counted_is : length new.counters ≡ length new.machine.entries
+  counted_is = counters_long (config_of p.known.over).mark new.machine new.counters p.known.counted
 
   came : CameTo old new
   came = came_to old new p.between.live p.was.front
@@ -196,7 +203,7 @@ module _ {F M Reader Reading : Type 0} {role : Role} {image : List ℕ → Type 
 
     pub going_is : closed ≡ false → IsGoing (phases ++ events ∷ []) left now.drawer (both_of sends (map (λ v. v.items) log.sends.items)) now.counts.items
     going_is off =
-        let more = going_more phases old new before.drawer e events before.counts.items dones sends h p.was p.memory p.long moved_is (p.through off) in
+        let more = going_more phases old new before.drawer e events before.counts.items dones sends h p.was p.memory p.long moved_is counted_is (p.through off) in
         let lined = subst (λ ls. IsGoing (phases ++ events ∷ []) new e (both_of sends ls) (map (λ x. x.number) dones)) (sym p.sends) more in
         let all = subst (λ cs. IsGoing (phases ++ events ∷ []) new e (both_of sends (map (λ v. v.items) log.sends.items)) cs) (sym p.counts) lined in
         let here = subst (λ d. IsGoing (phases ++ events ∷ []) new d (both_of sends (map (λ v. v.items) log.sends.items)) now.counts.items) (sym p.drawer) all in
@@ -205,7 +212,7 @@ module _ {F M Reader Reading : Type 0} {role : Role} {image : List ℕ → Type 
 
     pub over_is : closed ≡ true → (rest : List (List (List Event))) → IsOver (phases ++ events ∷ rest) left now.drawer (both_of sends (map (λ v. v.items) log.sends.items))
     over_is on rest =
-        let over = over_by phases old new before.drawer e events before.counts.items dones sends h p.was p.memory p.long moved_is (p.halted on) rest in
+        let over = over_by phases old new before.drawer e events before.counts.items dones sends h p.was p.memory p.long moved_is counted_is (p.halted on) rest in
         let lined = subst (λ ls. IsOver (phases ++ events ∷ rest) new e (both_of sends ls)) (sym p.sends) over in
         let here = subst (λ d. IsOver (phases ++ events ∷ rest) new d (both_of sends (map (λ v. v.items) log.sends.items))) (sym p.drawer) lined in
         subst (λ n. IsOver (phases ++ events ∷ rest) n now.drawer (both_of sends (map (λ v. v.items) log.sends.items))) (sym p.taken)

@@ -18,6 +18,7 @@ use Rattle.life_laws.proofs.Ordering.{broken_off, done_more, numbered_more}
 use Rattle.life_laws.proofs.Pairing.{pairs_more}
 use Rattle.life_laws.proofs.Handing.{handled_more, in_hand, next_in}
 use Rattle.life_laws.proofs.Stopping.{none_stopped, some_stopped}
+use Rattle.life_laws.proofs.Timing.{times_more}
 use Rattle.mesh_node.specs.Going.{AreTold, IsBetween, IsGoing, IsOver}
 use Rattle.mesh_node.specs.declared.phases.Seats.{Seats}
 use Rattle.mesh_node.specs.Steps.{IsSameNode}
@@ -30,7 +31,7 @@ length_both (x ∷ xs) (y ∷ ys) e = ap suc (length_both xs ys (omega (arith, e
 
 module _ {F : Type 0} (phases : List (List (List Event))) (old new : NodeView F) (d e : DrawerView) (events : List (List Event)) (counts : List ℕ) (dones : List Done) (sends : List (List Sent))
     (h : IsGoing phases old d sends counts) (w : WasPhase old new d e events counts dones) (memory : HadMemory dones) (few : length events ≡ length counts)
-    (moved : length new.machine.moves ≡ length new.machine.entries) where
+    (moved : length new.machine.moves ≡ length new.machine.entries) (counted : length new.counters ≡ length new.machine.entries) where
   at_most : length events ≤ length counts
   at_most = omega (arith, few)
 
@@ -39,8 +40,10 @@ module _ {F : Type 0} (phases : List (List (List Event))) (old new : NodeView F)
 
   pub going_more : AreThrough dones → IsGoing (phases ++ events ∷ []) new e (both_of sends (map lines_of dones)) (map (λ x. x.number) dones)
   going_more through = record {
-    done = done_more phases old new d e events counts dones sends h.done w memory at_most h.live through;
+    ends = h.ends ++ length new.machine.entries ∷ [];
+    done = done_more phases old new d e events counts h.ends dones sends h.done w memory at_most h.live through;
     pairs = pairs_more old new d e events counts dones sends h.pairs w memory h.live h.many moved;
+    timed = times_more old new d e events counts h.ends dones sends h.timed h.pairs w memory h.live h.many moved counted;
     handled = handled_more old new d e events counts dones w memory at_most h.live phases h.handled through;
     live = none_stopped old new d e events counts dones w h.live through;
     many = length_both sends (map lines_of dones) (omega (arith, h.many, dones_long, length-map dones lines_of)) ∙ omega (arith, h.many, dones_long, length-map dones (λ (x : Done). x.number));
@@ -50,12 +53,14 @@ module _ {F : Type 0} (phases : List (List (List Event))) (old new : NodeView F)
   over_by stopped rest =
       let some = some_stopped old new d e events counts dones w h.live stopped in
       record {
-        ordered = λ is_cut cut. subst (λ b. AreOrdered b (phases ++ events ∷ rest) new.machine.entries (both_of sends (map lines_of dones))) (sym (cut some))
-            (broken_off phases old new d e events counts dones sends h.done w memory at_most h.live rest);
-        numbers = λ k. (numbered_more phases old new d e events counts dones sends h.done w memory at_most h.live k).numbers;
+        ends = h.ends ++ length new.machine.entries ∷ [];
+        ordered = λ is_cut cut. subst (λ b. AreOrdered b (phases ++ events ∷ rest) new.machine.entries (both_of sends (map lines_of dones)) (h.ends ++ length new.machine.entries ∷ [])) (sym (cut some))
+            (broken_off phases old new d e events counts h.ends dones sends h.done w memory at_most h.live rest);
+        numbers = λ k. (numbered_more phases old new d e events counts h.ends dones sends h.done w memory at_most h.live k).numbers;
         pairs = pairs_more old new d e events counts dones sends h.pairs w memory h.live h.many moved;
+        timed = times_more old new d e events counts h.ends dones sends h.timed h.pairs w memory h.live h.many moved counted;
         next = λ more event hand out. next_in old new d e events counts dones w memory at_most h.live phases h.handled more event hand out rest;
-        hand = λ more event hand out. in_hand old new d e events counts dones w memory at_most h.live phases sends h.done more event hand out rest;
+        hand = λ more event hand out. in_hand old new d e events counts dones w memory at_most h.live phases sends h.ends h.done more event hand out rest;
       }
 
 -- the order that a flash was given, as the origin tells it
@@ -91,7 +96,7 @@ other_flash old new flash frame = record { start = ap (λ v. v.start) frame; whi
 pub going_with : {F : Type 0} (phases : List (List (List Event))) (node : NodeView F) (flash : F) (d : DrawerView) (sends : List (List Sent)) (counts : List ℕ) → IsGoing phases node d sends counts
     → IsGoing (phases ++ []) (record node { flash = flash }) d sends counts
 going_with phases node flash d sends counts h =
-    subst (λ ps. IsGoing ps (record node { flash = flash }) d sends counts) (sym (append-nil phases)) (record { done = h.done; pairs = h.pairs; handled = h.handled; live = h.live; many = h.many })
+    subst (λ ps. IsGoing ps (record node { flash = flash }) d sends counts) (sym (append-nil phases)) (record { ends = h.ends; done = h.done; pairs = h.pairs; timed = h.timed; handled = h.handled; live = h.live; many = h.many })
 
 pub told_with : {F : Type 0} (entries : List Entry) (node : NodeView F) (flash : F) → AreTold entries node → AreTold entries (record node { flash = flash })
 told_with entries node flash h = record { entries_are = h.entries_are; taken = h.taken }

@@ -55,10 +55,10 @@ abbrev pub taken_of : {F : Type 0} → NodeView F → NodeView F
 taken_of n = record n { machine = record n.machine { taken = length n.machine.entries } }
 
 pub going_taken : {F : Type 0} (phases : List (List (List Event))) (n : NodeView F) (d : DrawerView) (sends : List (List Sent)) (counts : List ℕ) → IsGoing phases n d sends counts → IsGoing phases (taken_of n) d sends counts
-going_taken phases n d sends counts h = record { done = h.done; pairs = h.pairs; handled = h.handled; live = h.live; many = h.many }
+going_taken phases n d sends counts h = record { ends = h.ends; done = h.done; pairs = h.pairs; timed = h.timed; handled = h.handled; live = h.live; many = h.many }
 
 pub over_taken : {F : Type 0} (phases : List (List (List Event))) (n : NodeView F) (d : DrawerView) (sends : List (List Sent)) → IsOver phases n d sends → IsOver phases (taken_of n) d sends
-over_taken phases n d sends h = record { ordered = h.ordered; numbers = h.numbers; pairs = h.pairs; next = h.next; hand = h.hand }
+over_taken phases n d sends h = record { ends = h.ends; ordered = h.ordered; numbers = h.numbers; pairs = h.pairs; timed = h.timed; next = h.next; hand = h.hand }
 
 -- what was taken of it are the entries that came to those of before
 pub told_more : {F : Type 0} (entries : List Entry) (old new : NodeView F) → AreTold entries old → CameTo old new → new.machine.taken ≡ old.machine.taken
@@ -279,15 +279,15 @@ on_err (Err e) p = p
 
 -- before the first phase
 pub first_goes : {F S T : Type 0} (IsDue : List Entry → ℕ → Type 0) (source : SourceSteps S) (sink : SinkSteps T) (from : S) (began : T) (bearers : ℕ) (node : NodeView F) (d : DrawerView) (counts : List ℕ)
-    → node.machine.entries ≡ [] → node.machine.taken ≡ length node.machine.entries → node.stops ≡ 0 → d.drawn ≡ [] → counts ≡ replicate bearers 0 → IsUnderWay IsDue source sink from from began began bearers node d node.flash counts
-first_goes IsDue source sink from began bearers node d counts none taken live drawn zeros = record {
+    → node.machine.entries ≡ [] → node.counters ≡ [] → node.machine.taken ≡ length node.machine.entries → node.stops ≡ 0 → d.drawn ≡ [] → counts ≡ replicate bearers 0 → IsUnderWay IsDue source sink from from began began bearers node d node.flash counts
+first_goes IsDue source sink from began bearers node d counts none uncounted taken live drawn zeros = record {
   phases = [];
   did = [];
   dues = [];
   gave = refl;
   due = tt;
   took = refl;
-  going = going_first node d bearers (replicate bearers []) counts none live drawn refl zeros;
+  going = going_first node d bearers (replicate bearers []) counts none uncounted live drawn refl zeros;
   told = record { entries_are = none; taken = taken };
   placed = tt;
   count = refl;

@@ -25,6 +25,7 @@ use Rattle.life_laws.specs.Pairs.{IsFromMove, IsUntilMove, PairsSo}
 use Rattle.life_laws.proofs.Pairing.{from_all}
 use Rattle.mesh_node.specs.Going.{IsOver}
 use Rattle.mesh_node.specs.Lived.{IsLifeTold, LivedOn, WentOn, life_told}
+use Rattle.mesh_node.specs.Timed.{IsTimed}
 use Rattle.mesh_node.specs.Told.{HasGiven, SinkSteps, SourceSteps, sends_told}
 use Rattle.mesh_node.specs.declared.told.LastStep.{LastStep}
 use Rattle.mesh_node.specs.Left.{Closes, HasLeft}
@@ -32,6 +33,7 @@ use Rattle.mesh_node.proofs.Drawn.{tells_words}
 use Rattle.mesh_node.proofs.Ending.{each_life, holds_next}
 use Rattle.mesh_node.proofs.Printing.{sends_short}
 use Rattle.mesh_node.proofs.Telling.{phases_are}
+use Rattle.mesh_node.proofs.Timing.{timed_of}
 
 module _ {M F S T : Type 0} (view : M → MachineView) (stands : FlashFound → Chip → List StoreRecord → M → Type 0) (role : Role) (image : List ℕ → Type 0) (chip : F → Chip) (IsDue : List Entry → ℕ → Type 0) (source : SourceSteps S) (sink : SinkSteps T) (from to : S) (began now : T) (bearers : ℕ) (few : bearers ≤ 8)
     (start : F) (node : NodeView F) (d : DrawerView) (opened : F) (last : LastStep) (went : WentOn IsDue source sink from to began now bearers node d opened last node.machine.closed)
@@ -104,6 +106,8 @@ module _ {M F S T : Type 0} (view : M → MachineView) (stands : FlashFound → 
     from = subst (λ (l : List Entry). All (All (IsFromMove l node.machine.moves)) (sends_told bearers went.did)) went.told.entries_are
         (from_all node.machine.entries node.machine.moves (sends_told bearers went.did) went.over.pairs.drawns d.looks went.over.pairs.shown);
     until = subst (λ (l : List Entry). (k : ℕ) → All (IsUntilMove k l node.machine.moves) (list_at (sends_told bearers went.did) k)) went.told.entries_are went.over.pairs.until;
+    timed = subst (λ (l : List Entry). IsTimed node.machine.closed went.phases (config_of h.over).mark l node.machine.moves (sends_told bearers went.did)) went.told.entries_are
+        (timed_of role image chip went.phases node d (sends_told bearers went.did) h went.over);
     hand = subst (λ (l : List Entry). HoldsNext went.phases l (sends_told bearers went.did) node.machine) went.told.entries_are (holds_next role image chip went.phases node d (sends_told bearers went.did) h went.over);
   }
 

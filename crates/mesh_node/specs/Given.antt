@@ -2,12 +2,15 @@
 use Rattle.std.specs.Prelude.{◌≡◌, ◌≢◌, ◌⊎◌, ℕ, List, [], ◌∷◌, ◌++◌, Option, IfSome}
 use Rattle.flash_model.specs.Chip.{Arm, Chip}
 use Rattle.life_laws.specs.Hands.{AreHandledAll}
+use Rattle.life_laws.specs.Phases.{AreDone}
 use Rattle.machine_contract.specs.declared.answers.Hand.TheVariants as H
 use Rattle.machine_contract.specs.View.{MachineView}
 use Rattle.mesh_types.specs.declared.history.Entry.{Entry}
+use Rattle.mesh_types.specs.declared.history.Sent.{Sent}
 use Rattle.record_types.specs.declared.records.StoreRecord.{StoreRecord}
-use Rattle.report_definitions.specs.Record.{Life}
+use Rattle.report_definitions.specs.Record.{Life, list_at}
 use Rattle.run_definitions.specs.Order.{Step, arm, is_cut, phases_of}
+use Rattle.turn_lock.specs.Entries.{IsPrefix}
 
 -- The order stands first in the plan, and no call that changes the flash was begun when it was given.
 pub record WasFirst (plan : List Step) (order : Arm) : Type 0 where
@@ -31,13 +34,17 @@ pub record IsUnfilled (old new : MachineView) : Type 0 where
   pub entries : new.entries ≡ old.entries ++ more
   pub none : NoneMore old.fills more new
 
+-- the lines of each bearer begin with these
+abbrev pub BeginWith : List (List Sent) → List (List Sent) → Type 0
+BeginWith front sends = (k : ℕ) → IsPrefix (list_at front k) (list_at sends k)
+
 -- `stands` is of one life: what it found is given
 module _ {M F : Type 0} (view : M → MachineView) (stands : Chip → List StoreRecord → M → Type 0) (chip : F → Chip)
     (over : List StoreRecord) where
-  -- The order was given where a machine stood over the flash that had handled all events of the phases before it in the plan, and none of
-  -- those behind it. Since then, up to this machine, no refill was stored before the next entry: so those that lines of before had asked for were
-  -- stored before the order.
-  pub record WasBetween (now : MachineView) (plan : List Step) (order : Arm) : Type 0 where
+  -- The order was given where a machine stood over the flash that had handled all events of the phases before it in the plan, with what follows their
+  -- lines, and none of those behind it. These lines come first among those of the life. Since then, up to this machine, no refill was stored before
+  -- the next entry.
+  pub record WasBetween (now : MachineView) (sends : List (List Sent)) (plan : List Step) (order : Arm) : Type 0 where
     pub before : List Step
     pub behind : List Step
     pub is : plan ≡ before ++ arm order.calls order.mask ∷ behind
@@ -45,16 +52,21 @@ module _ {M F : Type 0} (view : M → MachineView) (stands : Chip → List Store
     pub machine : M
     pub stood : stands (chip flash) over machine
     pub handled : AreHandledAll (phases_of before) (view machine).entries
+    pub lines : List (List Sent)
+    pub front : BeginWith lines sends
+    pub counts : List ℕ
+    pub ends : List ℕ
+    pub done : AreDone (phases_of before) (view machine).entries lines counts ends
     pub changes : order.changes ≡ (chip flash).changes
     pub unfilled : IsUnfilled (view machine) now
 
   -- first of all, or behind a phase
-  abbrev pub WasGiven : MachineView → List Step → Arm → Type 0
-  WasGiven now plan order = WasFirst plan order ⊎ ((placed : WasBetween now plan order) × (placed.before ≢ []))
+  abbrev pub WasGiven : MachineView → List (List Sent) → List Step → Arm → Type 0
+  WasGiven now sends plan order = WasFirst plan order ⊎ ((placed : WasBetween now sends plan order) × (placed.before ≢ []))
 
   -- the order that the flash had before, or one that was given between two phases of the plan
-  abbrev pub IsSameOrPlaced : MachineView → List Step → Option Arm → Option Arm → Type 0
-  IsSameOrPlaced now plan old new = (new ≡ old) ⊎ IfSome new (WasBetween now plan)
+  abbrev pub IsSameOrPlaced : MachineView → List (List Sent) → List Step → Option Arm → Option Arm → Type 0
+  IsSameOrPlaced now sends plan old new = (new ≡ old) ⊎ IfSome new (WasBetween now sends plan)
 
   -- The machine that stands over the flash at the end: what the life tells is all that it handled, and the life is cut exactly where it is
   -- closed.

@@ -8,7 +8,7 @@ use Rattle.run_definitions.specs.Order.{is_outside}
 use Rattle.seq_word.specs.Seen.{DrawerView}
 use Rattle.locked_node.specs.Node.{NodeView, event_in}
 use Rattle.life_laws.specs.Hands.{AreHandledAll, IsInHand, IsNextIn}
-use Rattle.life_laws.specs.Pairs.{PairsSo}
+use Rattle.life_laws.specs.Pairs.{AreTimed, PairsSo}
 use Rattle.node_limits.specs.declared.TheConstants.{BEARERS}
 use Rattle.node_phase.specs.declared.bearers.Done.{Done}
 use Rattle.node_phase.specs.Part.{lines_of}
@@ -19,8 +19,10 @@ use Rattle.life_laws.specs.Phases.{AreDone, AreOrdered, entries_by}
 -- These phases are through, and no bearer stopped.
 pub record IsGoing {F : Type 0} (phases : List (List (List Event))) (node : NodeView F) (d : DrawerView)
     (sends : List (List Sent)) (counts : List ℕ) : Type 0 where
-  pub done : AreDone phases node.machine.entries sends counts
+  pub ends : List ℕ
+  pub done : AreDone phases node.machine.entries sends counts ends
   pub pairs : PairsSo node.machine.entries node.machine.moves sends d
+  pub timed : AreTimed node.machine.entries node.counters ends sends
   pub handled : AreHandledAll phases node.machine.entries
   pub live : node.stops ≡ 0
   pub many : length sends ≡ length counts
@@ -28,11 +30,13 @@ pub record IsGoing {F : Type 0} (phases : List (List (List Event))) (node : Node
 -- All that was done of these phases: all of it where no bearer stopped.
 pub record IsOver {F : Type 0} (phases : List (List (List Event))) (node : NodeView F) (d : DrawerView)
     (sends : List (List Sent)) : Type 0 where
-  pub ordered : (is_cut : Bool) → (0 < node.stops → is_cut ≡ true) → AreOrdered is_cut phases node.machine.entries sends
+  pub ends : List ℕ
+  pub ordered : (is_cut : Bool) → (0 < node.stops → is_cut ≡ true) → AreOrdered is_cut phases node.machine.entries sends ends
   pub numbers : (k : ℕ)
       → map (λ e. e.number) (entries_by k node.machine.entries)
       ≡ range_with_len 1 (length (entries_by k node.machine.entries))
   pub pairs : PairsSo node.machine.entries node.machine.moves sends d
+  pub timed : AreTimed node.machine.entries node.counters ends sends
   pub next : 0 < node.stops → (event : Event) → event_in node.machine.hand ≡ Some event → is_outside event ≡ true
       → IsNextIn phases node.machine.entries event
   -- what its bearer left begins with it, so no line of an event before it is left

@@ -5,6 +5,7 @@ pub mod Given
 pub mod Lives
 pub mod Ran
 pub mod Told
+pub mod Timed
 pub mod Due
 pub mod Left
 pub mod Lived

@@ -29,6 +29,7 @@ use Rattle.mesh_node.specs.Going.{AreTold, IsGoing, IsOver}
 use Rattle.mesh_node.specs.Lives.{IsPrintable}
 use Rattle.mesh_node.specs.declared.told.LastStep.{LastStep}
 use Rattle.life_laws.specs.Phases.{PhasesDone}
+use Rattle.mesh_node.specs.Timed.{IsTimed}
 use Rattle.mesh_node.specs.Told.{ArePlaced, AreToldEach, BySteps, GivesEach, HasGiven, HasTaken, IsClosedAt, PhaseDid, SinkSteps, SourceSteps, entries_told, part_told, sends_told}
 
 module _ {F S T : Type 0} (IsDue : List Entry → ℕ → Type 0) (source : SourceSteps S) (sink : SinkSteps T) (from to : S) (began now : T) (bearers : ℕ) (node : NodeView F) (d : DrawerView) where
@@ -124,6 +125,8 @@ module _ {S T : Type 0} (Stood : List StoreRecord → MachineView → Type 0) (r
     pub from : All (All (IsFromMove (entries_told did) all.machine.moves)) (sends_told bearers did)
     -- nor does one draw a word at or above where it was moved to with a later event from outside of its bearer
     pub until : (k : ℕ) → All (IsUntilMove k (entries_told did) all.machine.moves) (list_at (sends_told bearers did) k)
+    -- and what each line draws lies between where the counter was behind its entry, and behind the entries that come behind it
+    pub timed : IsTimed closed phases (config_of over).mark (entries_told did) all.machine.moves (sends_told bearers did)
     -- an event from outside that its machine has in hand comes behind all lines of its bearer's events before
     pub hand : HoldsNext phases (entries_told did) (sends_told bearers did) all.machine
 

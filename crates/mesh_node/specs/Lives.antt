@@ -22,12 +22,13 @@ use Rattle.std.specs.Prelude.{All, Some}
 use Rattle.life_laws.specs.declared.plan.LifeLog.{LifeLog}
 use Rattle.life_laws.specs.declared.plan.LifePlan.{LifePlan}
 use Rattle.machine_contract.specs.View.{MachineView}
-use Rattle.mesh_node.specs.Drawn.{TellsDrawn}
+use Rattle.mesh_node.specs.Drawn.{TellsDrawn, opened_at}
 use Rattle.mesh_node.specs.Given.{IsTold, WasFirst, WasGiven}
 use Rattle.life_laws.specs.Hands.{HoldsNext}
 use Rattle.life_laws.specs.Pairs.{IsFromMove, IsUntilMove}
 use Rattle.life_laws.specs.Plan.{HasOneArm, IsStep, life_of}
 use Rattle.mesh_node.specs.Steps.{IsGiven, IsOfPlan}
+use Rattle.mesh_node.specs.Timed.{IsTimed}
 use Rattle.node_limits.specs.declared.TheConstants.{BANK_SECTORS, BEARERS, COMPACTION_CALLS}
 
 -- A plan for a node that any image of the flash recovers: at most `BEARERS` bearers, at most one order to tear a call, and events that the node may have.
@@ -109,7 +110,7 @@ pub record Lives {M F : Type 0} (view : M → MachineView) (stands : FlashFound 
   -- and an order was given at its place in the plan
   pub given : (on : is_on log.opened ≡ true)
       → IfSome (chip new).setting.arm
-      (WasGiven view (stands (found_at old.faults image)) chip over (view (told on).machine) plan)
+      (WasGiven view (stands (found_at old.faults image)) chip over (view (told on).machine) (life_of log).sends plan)
   -- and the flash had at most the program and erase calls that the records cost which were stored or in hand, and a migration
   pub paid : (on : is_on log.opened ≡ true)
       → IsLifeSoFar role IsNodeImage (found_at old.faults image) (chip new) over (view (told on).machine)
@@ -119,6 +120,10 @@ pub record Lives {M F : Type 0} (view : M → MachineView) (stands : FlashFound 
   -- nor does one draw a word at or above where it was moved to with a later event from outside of its bearer
   pub until : (on : is_on log.opened ≡ true) → (k : ℕ)
       → All (IsUntilMove k (life_of log).entries (view (told on).machine).moves) (list_at (life_of log).sends k)
+  -- and what each line draws lies between where the counter was behind its entry, and behind the entries that come behind it
+  pub timed : (on : is_on log.opened ≡ true)
+      → IsTimed (is_cut log.end) (phases_of plan) (opened_at log.opened) (life_of log).entries (view (told on).machine).moves
+      (life_of log).sends
   -- an event from outside that its machine has in hand comes behind all lines of its bearer's events before
   pub hand : (on : is_on log.opened ≡ true)
       → HoldsNext (phases_of plan) (life_of log).entries (life_of log).sends (view (told on).machine)

@@ -81,8 +81,9 @@ pub fn begin<M: Machine, F: Flash + Send + Drop>(
     ensures begins { IfOk result (λ r. r.node.machine.entries ≡ []) }
     ensures usable { IfOk result (λ r. r.node.machine.closed ≡ false) }
 {
-    // It does nothing when it runs: the proof uses what it says.
+    // They do nothing when they run: the proof uses what they say.
     M::tells::<F>();
+    one_list_is_recovered();
     let Beginning {
         flash,
         start,
@@ -92,12 +93,13 @@ pub fn begin<M: Machine, F: Flash + Send + Drop>(
     let Started {
         machine,
         numbers,
-        drawer,
+        mut drawer,
         state: _,
         mark: _,
     } = started;
     let elements = machine.elements();
-    let node = Node::new(alloc, machine, flash, start)?;
+    let watcher = numbers.watcher(&mut drawer);
+    let node = Node::new(alloc, machine, watcher, flash, start)?;
     let seats = Seats::new(alloc, numbers, drawer, bearers)?;
     Ok(Going {
         node,

@@ -137,11 +137,12 @@ fn run_life<M: Machine, F: Bench, G: Gate, R: Threads + Wait + Sync>(
     let Started {
         machine,
         numbers,
-        drawer,
+        mut drawer,
         state,
         mark,
     } = started;
-    let opened = Node::new(host.alloc, machine, flash, start)?;
+    let watcher = numbers.watcher(&mut drawer);
+    let opened = Node::new(host.alloc, machine, watcher, flash, start)?;
     let mut seats = Seats::new(host.alloc, numbers, drawer, plan.bearers)?;
     let (node, told) = do_steps(host, opened, &mut seats, plan.bearers, steps)?;
     node.known();

@@ -9,7 +9,7 @@ ghost use Rattle.store_definitions.specs.Recovered.{IsRecovered};
 ghost use Rattle.machine_contract.specs.declared.answers.Hand.TheVariants as Hands;
 ghost use Rattle.machine_contract.specs.Opening.{found_of};
 ghost use Rattle.node_bearer.specs.Did.{AreEvents};
-ghost use Rattle.mesh_node.specs.Given.{IsSameOrPlaced, IsUnfilled};
+ghost use Rattle.mesh_node.specs.Given.{BeginWith, IsSameOrPlaced, IsUnfilled};
 ghost use Rattle.mesh_node.specs.Going.{AreTold, IsBetween, IsGoing, IsOver};
 ghost use Rattle.life_laws.specs.Plan.{IsStep, behind_arm, step_of, steps_of};
 ghost use Rattle.mesh_node.specs.Steps.{HasGiven, IsArmedBy, IsArmedFirst, IsSameNode, IsSameOrOf, MayArm, MayFollow};
@@ -67,6 +67,8 @@ fn do_phase<M: Machine, F: Bench, G: Gate, R: Threads + Wait + Sync>(
     ensures many { OnOk result
         ((length seats.new.counts.items ≡ length seats.old.counts.items)
         × (length log.new.sends.items ≡ length log.old.sends.items)) }
+    ensures longer { OnOk result
+        (BeginWith (map (λ v. v.items) log.old.sends.items) (map (λ v. v.items) log.new.sends.items)) }
     ensures told { AreTold log.old.entries.items node
         → IfOk result (λ r. AreTold log.new.entries.items r.0) }
     ensures going { (phases : List (List (List Event)))
@@ -112,6 +114,8 @@ pub fn do_step<M: Machine, F: Bench, G: Gate, R: Threads + Wait + Sync>(
     ensures many { OnOk result
         ((length seats.new.counts.items ≡ length seats.old.counts.items)
         × (length log.new.sends.items ≡ length log.old.sends.items)) }
+    ensures longer { OnOk result
+        (BeginWith (map (λ v. v.items) log.old.sends.items) (map (λ v. v.items) log.new.sends.items)) }
     ensures told { AreTold log.old.entries.items node
         → IfOk result (λ r. AreTold log.new.entries.items r.0) }
     ensures going { (phases : List (List (List Event)))
@@ -153,6 +157,7 @@ pub fn do_steps<M: Machine, F: Bench, G: Gate, R: Threads + Wait + Sync>(
     requires steps { All (IsStep bearers node.machine.elements) steps.now }
     requires may { MayFollow steps.now (F.chip node.flash).setting.arm }
     requires begins { node.machine.entries ≡ [] }
+    requires uncounted { node.counters ≡ [] }
     ensures numbers { seats.new.numbers ≡ seats.old.numbers }
     ensures which { seats.new.drawer.which ≡ seats.old.drawer.which }
     ensures parts { OnOk result (seats.new.drawer.parts ≡ 1024) }
@@ -165,8 +170,8 @@ pub fn do_steps<M: Machine, F: Bench, G: Gate, R: Threads + Wait + Sync>(
     ensures given { IfOk result (λ r. r.0.stops ≡ 0 → HasGiven (steps_of steps.now) (F.chip r.0.flash).setting.arm) }
     ensures placed { (over : List StoreRecord) → IsRecovered (F.chip node.start).now over
         → IfOk result
-        (λ r. IsSameOrPlaced M.view (M.stands (found_of (F.chip node.start))) F.chip over r.0.machine (steps_of steps.now)
-        (F.chip node.flash).setting.arm (F.chip r.0.flash).setting.arm) }
+        (λ r. IsSameOrPlaced M.view (M.stands (found_of (F.chip node.start))) F.chip over r.0.machine
+        (map (λ v. v.items) r.1.sends.items) (steps_of steps.now) (F.chip node.flash).setting.arm (F.chip r.0.flash).setting.arm) }
     ensures many { IfOk result (λ r. length r.1.sends.items ≡ bearers) }
     ensures told { IfOk result (λ r. AreTold r.1.entries.items r.0) }
     ensures over { IfOk result

@@ -20,18 +20,19 @@ use Rattle.run_definitions.specs.Order.{Placed, Task, follow, Walks, is_outside,
 use Rattle.run_definitions.specs.RunOf.{draws, word_told, words_told}
 use Rattle.seq_word.specs.Dry.{DryView}
 use Rattle.seq_word.specs.Rule.{IsPast, times}
-use Rattle.seq_word.specs.Seen.{AfterLost, DrawerView, HasCause, IsBelow, LostTries, SameDrawn, last_word}
+use Rattle.seq_word.specs.Seen.{AfterLost, DrawerView, HasCause, LostTries, SameDrawn, last_word}
 use Rattle.seq_word.specs.Seen as seen
 use Rattle.seq_word.specs.declared.looks.Look.{Look}
 use Rattle.seq_word.specs.declared.looks.Look.TheVariants as saw
 use Rattle.seq_word.specs.declared.miss.Miss.TheVariants as missed
 use Rattle.turn_lock.specs.Entries.{IsPrefix, added}
+use Rattle.locked_node.specs.declared.marks.Behind.{Behind}
 use Rattle.locked_node.specs.declared.marks.Mark.{Mark}
 use Rattle.locked_node.specs.declared.marks.Mark.TheVariants as M
 use Rattle.node_bearer.specs.Did.{AreMarksAt, Did, DrewPair, IsFor, IsMovedOver, SawDry, SawEnd}
-use Rattle.node_bearer.specs.Marked.{AreShown, HasJob, IsBehind, IsFrom, IsSpentSeen, end_told, ends_told, move_of, shown_in, word_seen, words_seen}
+use Rattle.node_bearer.specs.Marked.{AreShown, HasJob, IsBehind, IsFrom, IsSpentSeen, counter_of, end_told, ends_told, move_of, shown_in, word_seen, words_seen}
 use Rattle.node_bearer.proofs.Lists.{added_one, found_longer, from_more, marks_at_more, no_lower, pairs_more, range_more, times_append}
-use Rattle.node_bearer.proofs.Moving.{last_more, moved_here, moved_line, moved_more, moved_still, over_acted, over_follows}
+use Rattle.node_bearer.proofs.Moving.{behind_still, last_more, moved_here, moved_line, moved_more, moved_still, over_acted, over_follows}
 use Rattle.node_bearer.proofs.Walking.{acts, walk_more}
 
 -- more is seen of the marks
@@ -63,13 +64,6 @@ words_more x looks rest = ap (times x) (filter_map-append word_seen looks rest) 
 spent_front : (looks more : List Look) (o : Outcome) → seen.IsPrefix looks more → IsSpentSeen looks o → IsSpentSeen more o
 spent_front looks more o front h = subst (λ ls. IsSpentSeen ls o) (sym front.is) (spent_more looks front.rest o h)
 
--- a word stays behind what was known at first
-behind_still : (d e : DrawerView) → e.noted ≡ d.noted → e.known ≡ d.known → (x : ℕ) → IsBehind d x → IsBehind e x
-behind_still d e noted known x h = record {
-  noted = subst (All (λ y. y < x)) (sym noted) h.noted;
-  known = subst (All (IsPast x)) (sym known) h.known;
-}
-
 -- a seat that has looked more
 shown_still : (marks : List Mark) (lines : List Sent) (d e : DrawerView) → e.drawn ≡ d.drawn → e.noted ≡ d.noted → e.known ≡ d.known → seen.IsPrefix d.looks e.looks
     → AreShown marks lines d → AreShown marks lines e
@@ -92,21 +86,23 @@ found_here : (marks : List Mark) (at j : ℕ) (event : Event) (job : Job) (o : O
 found_here marks at j event job o informed h =
     rw h.entry.here (rw (subst (λ js. slice_get js j ≡ Some job) (sym h.entry.jobs_are) h.place) refl)
 
--- The word that it tells is not below where the counter had been moved to behind its entry: the seat that drew or looked had been told of that.
+-- The word that it tells is not below where the counter had been moved to behind its entry, nor below where it was then: the seat that drew or looked had been told of that.
 from_here : (marks : List Mark) (at j : ℕ) (event : Event) (job : Job) (o : Outcome) (d : DrawerView) (w : Option ℕ) → HasJob marks at j event job d.informed → word_told job o ≡ w → IfSome w (seen.IsAbove d)
     → IsFrom marks (record { entry = at; job = j; outcome = o })
 from_here marks at j event job o d w there tells above = λ line mark word shows here told.
     let e = there.entry.entry in
     let both : Some line ≡ Some (record { entry = e; job = job; outcome = o }) = sym shows ∙ found_here marks at j event job o d.informed there in
     let is : line ≡ record { entry = e; job = job; outcome = o } = cc in
-    let marked : Some mark ≡ Some (M.Handled e there.entry.move) = sym here ∙ there.entry.here in
-    let same : mark ≡ M.Handled e there.entry.move = cc in
+    let behind = there.entry.behind in
+    let marked : Some mark ≡ Some (M.Handled e behind) = sym here ∙ there.entry.here in
+    let same : mark ≡ M.Handled e behind = cc in
     let over = subst (λ x. IfSome x (seen.IsAbove d)) (sym tells ∙ sym (ap (λ (x : Shown). word_told x.job x.outcome) is) ∙ told) above in
-    let behind : there.entry.move ≤ word = elim (there.entry.knows) [
+    let moved : behind.moved ≤ word = elim (there.entry.knows.moved) [
       | inl none ↦ omega (arith, none)
-      | inr known ↦ All-contains (λ x. x ≤ word) d.informed there.entry.move over.informed known
+      | inr known ↦ All-contains (λ x. x ≤ word) d.informed behind.moved over.informed known
     ] in
-    subst (λ x. move_of x ≤ word) (sym same) behind
+    let counted : behind.counter ≤ word = All-contains (λ x. x ≤ word) d.informed behind.counter over.informed there.entry.knows.counter in
+    subst (λ x. (move_of x ≤ word) × (counter_of x ≤ word)) (sym same) (moved, counted)
 
 draws_one : (e : Entry) (job : Job) (o : Outcome) (p : Option Pair) → drawn_of job o ≡ p → draws (record { entry = e; job = job; outcome = o } ∷ []) ≡ option_to_list p
 draws_one e job o None h = rw h refl
@@ -224,13 +220,13 @@ same_looks looks = record { rest = []; is = sym (append-nil looks) }
 
 module _ (k first : ℕ) (tasks : List Task) where
   -- an event was handled
-  pub did_acted : (task : Task) (rest : List Task) (own : List (ℕ × Mark)) (marks ms : List Mark) (lines : List Sent) (number : ℕ) (d : DrawerView) (event : Event) (e : Entry) (move : ℕ)
+  pub did_acted : (task : Task) (rest : List Task) (own : List (ℕ × Mark)) (marks ms : List Mark) (lines : List Sent) (number : ℕ) (d : DrawerView) (event : Event) (e : Entry) (behind : Behind)
       → IsFor event task → Did k first tasks (task ∷ rest) own marks lines number d → IsPrefix marks ms → e.event ≡ event → e.bearer ≡ k → e.number ≡ number + 1
-      → (move ≡ last_word (map move_of ms)) ⊎ IsBelow d move
-      → Did k first tasks (write_tasks (length ms) 0 event e.jobs ++ rest) (own ++ added ms (ms ++ M.Handled e move ∷ [])) (ms ++ M.Handled e move ∷ []) lines (number + 1) d
-  did_acted task rest own marks ms lines number d event e move is h front same by numbered until =
+      → (behind.moved ≡ last_word (map move_of ms)) ⊎ seen.IsAbove d behind.moved → seen.IsAbove d behind.counter
+      → Did k first tasks (write_tasks (length ms) 0 event e.jobs ++ rest) (own ++ added ms (ms ++ M.Handled e behind ∷ [])) (ms ++ M.Handled e behind ∷ []) lines (number + 1) d
+  did_acted task rest own marks ms lines number d event e behind is h front same by numbered until above =
       let p : Placed = record { at = length ms; entry = e } in
-      let new = M.Handled e move ∷ [] in
+      let new = M.Handled e behind ∷ [] in
       let grown : ms ++ new ≡ marks ++ (front.rest ++ new) = ap (λ l. l ++ new) front.is ∙ append_assoc marks front.rest new in
       let before : All (λ q. q.at < length ms) h.entries = λ i q lt. let below : (slice_index_or h.entries i q).at < length marks = h.last i q lt in omega (arith, below, ap length front.is, length-append marks front.rest) in
       let n = length h.entries in
@@ -241,7 +237,7 @@ module _ (k first : ℕ) (tasks : List Task) where
       ∙ ap (λ x. range_with_len (first + 1) n ++ x ∷ []) numbered' ∙ sym (range_more (first + 1) n) in
       record {
         entries = h.entries ++ p ∷ [];
-        own_are = subst (λ l. AreMarksAt (own ++ l) (h.entries ++ p ∷ [])) (sym (added_one ms (M.Handled e move))) (marks_at_more own h.entries (length ms) e move h.own_are);
+        own_are = subst (λ l. AreMarksAt (own ++ l) (h.entries ++ p ∷ [])) (sym (added_one ms (M.Handled e behind))) (marks_at_more own h.entries (length ms) e behind h.own_are);
         walks = subst (λ ev. Walks tasks (h.entries ++ p ∷ []) lines (write_tasks (length ms) 0 ev e.jobs ++ rest)) same
             (subst (λ ls. Walks tasks (h.entries ++ p ∷ []) ls (job_tasks p ++ rest)) (append-nil lines) (walk_more h.walks (acts event task rest p is same)));
         bearer = All-push (λ q. q.entry.bearer ≡ k) h.entries p h.bearer by;
@@ -252,7 +248,7 @@ module _ (k first : ℕ) (tasks : List Task) where
         above = h.above;
         until = All-push (IsMovedOver (ms ++ new) lines d) h.entries p
             (subst (λ l. All (IsMovedOver l lines d) h.entries) (sym grown) (moved_more marks (front.rest ++ new) lines d h.entries h.shown h.last h.until))
-            (moved_here ms lines d e move (shown_prefix marks ms lines d front h.shown) until);
+            (moved_here ms lines d e behind (shown_prefix marks ms lines d front h.shown) until above);
         over = over_acted h.entries p event task rest is same before h.over;
         last = All-push (λ q. q.at < length (ms ++ new)) h.entries p (last_more ms new h.entries before) (omega (arith, length-append ms new));
       }
@@ -289,7 +285,7 @@ module _ (k first : ℕ) (tasks : List Task) where
     shown = shown_still marks lines d e drawn noted known looks h.shown;
     rise = subst (AllPairs (λ x y. x < y)) (sym drawn) h.rise;
     above = subst (λ ws. All (λ x. All (λ y. y < x) e.noted) ws) (sym drawn) (subst (λ ns. All (λ x. All (λ y. y < x) ns) d.drawn) (sym noted) h.above);
-    until = moved_still marks lines d e h.entries noted h.until;
+    until = moved_still marks lines d e h.entries noted known h.until;
     over = h.over;
     last = h.last;
   }
@@ -311,7 +307,7 @@ module _ (k first : ℕ) (tasks : List Task) where
         (word_of_line job o None drawn none) tt;
     rise = h.rise;
     above = h.above;
-    until = moved_line marks lines d d h.entries (record { entry = at; job = j; outcome = o }) refl h.over.0 h.until;
+    until = moved_line marks lines d d h.entries (record { entry = at; job = j; outcome = o }) refl refl h.over.0 h.until;
     over = over_follows h.entries after rest inside h.over.1;
     last = h.last;
   }
@@ -337,7 +333,7 @@ module _ (k first : ℕ) (tasks : List Task) where
         rise = subst (AllPairs (λ x y. x < y)) (sym new.drawn) (pairs_more d.drawn (word_of p) h.rise new.above.drawn);
         above = subst (λ ws. All (λ x. All (λ y. y < x) e.noted) ws) (sym new.drawn) (subst (λ ns. All (λ x. All (λ y. y < x) ns) (d.drawn ++ word_of p ∷ [])) (sym new.noted)
             (All-push (λ x. All (λ y. y < x) d.noted) d.drawn (word_of p) h.above new.above.noted));
-        until = moved_line marks lines d e h.entries (record { entry = at; job = j; outcome = o }) new.noted h.over.0 h.until;
+        until = moved_line marks lines d e h.entries (record { entry = at; job = j; outcome = o }) new.noted new.known h.over.0 h.until;
         over = over_follows h.entries after rest inside h.over.1;
         last = h.last;
       }
@@ -361,7 +357,7 @@ module _ (k first : ℕ) (tasks : List Task) where
             (All-nil (λ q. q.seq < 2 ^ 24)) new.here new.once_more refl new.above;
         rise = subst (AllPairs (λ x y. x < y)) (sym new.drawn) h.rise;
         above = subst (λ ws. All (λ x. All (λ y. y < x) e.noted) ws) (sym new.drawn) (subst (λ ns. All (λ x. All (λ y. y < x) ns) d.drawn) (sym new.noted) h.above);
-        until = moved_line marks lines d e h.entries (record { entry = at; job = j; outcome = O.Spent iv }) new.noted h.over.0 h.until;
+        until = moved_line marks lines d e h.entries (record { entry = at; job = j; outcome = O.Spent iv }) new.noted new.known h.over.0 h.until;
         over = h.over.1;
         last = h.last;
       }

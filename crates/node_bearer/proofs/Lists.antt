@@ -11,13 +11,14 @@ use Rattle.seq_word.specs.Rule.{times}
 use Rattle.mesh_types.specs.declared.history.Sent.{Sent}
 use Rattle.report_definitions.specs.Record.{Shown}
 use Rattle.turn_lock.specs.Entries.{IsPrefix, added}
+use Rattle.locked_node.specs.declared.marks.Behind.{Behind}
 use Rattle.locked_node.specs.declared.marks.Mark.{Mark}
 use Rattle.locked_node.specs.declared.marks.Mark.TheVariants as M
 use Rattle.mesh_types.specs.declared.history.Entry.{Entry}
 use Rattle.run_definitions.specs.Order.{Placed}
 use Rattle.run_definitions.specs.RunOf.{word_told}
 use Rattle.node_bearer.specs.Did.{AreMarksAt}
-use Rattle.node_bearer.specs.Marked.{IsFrom, move_of, shown_at, shown_in}
+use Rattle.node_bearer.specs.Marked.{IsFrom, counter_of, move_of, shown_at, shown_in}
 
 -- how often a word stands in two lists
 pub times_append : (x : ℕ) (xs ys : List ℕ) → times x (xs ++ ys) ≡ times x xs + times x ys
@@ -115,17 +116,17 @@ found_longer marks rest (s ∷ lines) (y ∷ shows) h =
     let more = found_longer marks rest lines shows tail in
     cc
 
--- a line of an entry that is there tells no word below the same move when more is seen
+-- a line of an entry that is there tells no word below where the counter was behind that when more is seen
 from_longer : (marks rest : List Mark) (s : Sent) (y : Shown) → shown_in marks s ≡ Some y → IsFrom marks s → IsFrom (marks ++ rest) s
 from_longer marks rest s y here h = λ line mark word shows at told. by_mark line mark word shows at told (slice_get marks s.entry) refl here
   where
     by_mark : (line : Shown) (mark : Mark) (word : ℕ) → shown_in (marks ++ rest) s ≡ Some line → slice_get (marks ++ rest) s.entry ≡ Some mark → word_told line.job line.outcome ≡ Some word
-        → (o : Option Mark) → slice_get marks s.entry ≡ o → option_and_then (λ m. shown_at m s) o ≡ Some y → move_of mark ≤ word
+        → (o : Option Mark) → slice_get marks s.entry ≡ o → option_and_then (λ m. shown_at m s) o ≡ Some y → (move_of mark ≤ word) × (counter_of mark ≤ word)
     by_mark line mark word shows at told None e none = cc
     by_mark line mark word shows at told (Some m) e there =
         let both : Some m ≡ Some mark = sym (get_longer marks rest s.entry m e) ∙ at in
         let same : m ≡ mark = cc in
-        subst (λ x. move_of x ≤ word) same (h line m word (here ∙ sym (shown_longer marks rest s y (Some m) e there) ∙ shows) e told)
+        subst (λ x. (move_of x ≤ word) × (counter_of x ≤ word)) same (h line m word (here ∙ sym (shown_longer marks rest s y (Some m) e there) ∙ shows) e told)
 
 pub from_more : (marks rest : List Mark) (lines : List Sent) (shows : List Shown) → map (shown_in marks) lines ≡ map Some shows → All (IsFrom marks) lines → All (IsFrom (marks ++ rest)) lines
 from_more marks rest [] shows h from = All-nil (IsFrom (marks ++ rest))
@@ -136,9 +137,9 @@ from_more marks rest (s ∷ lines) (y ∷ shows) h from =
     All-cons (IsFrom (marks ++ rest)) s lines (from_longer marks rest s y head (All-head (IsFrom marks) s lines from)) (from_more marks rest lines shows tail (All-tail (IsFrom marks) s lines from))
 
 -- an entry more, at its place
-pub marks_at_more : (own : List (ℕ × Mark)) (entries : List Placed) (at : ℕ) (e : Entry) (move : ℕ) → AreMarksAt own entries
-    → AreMarksAt (own ++ (at, M.Handled e move) ∷ []) (entries ++ record { at = at; entry = e } ∷ [])
-marks_at_more [] [] at e move h = (move, refl, tt)
-marks_at_more [] (p ∷ entries) at e move h = absurd h
-marks_at_more (x ∷ own) [] at e move h = absurd h
-marks_at_more (x ∷ own) (p ∷ entries) at e move h = (h.0, h.1, marks_at_more own entries at e move h.2)
+pub marks_at_more : (own : List (ℕ × Mark)) (entries : List Placed) (at : ℕ) (e : Entry) (behind : Behind) → AreMarksAt own entries
+    → AreMarksAt (own ++ (at, M.Handled e behind) ∷ []) (entries ++ record { at = at; entry = e } ∷ [])
+marks_at_more [] [] at e behind h = (behind, refl, tt)
+marks_at_more [] (p ∷ entries) at e behind h = absurd h
+marks_at_more (x ∷ own) [] at e behind h = absurd h
+marks_at_more (x ∷ own) (p ∷ entries) at e behind h = (h.0, h.1, marks_at_more own entries at e behind h.2)

@@ -9,14 +9,15 @@ use Rattle.mesh_types.specs.declared.history.Entry.{Entry}
 use Rattle.mesh_types.specs.declared.jobs.Job.{Job}
 use Rattle.run_definitions.specs.Lines.{is_drawing}
 use Rattle.run_definitions.specs.Order.{IsStuck, Task, follow, handle, write, write_tasks}
-use Rattle.seq_word.specs.Seen.{DrawerView, IsBelow, last_word}
+use Rattle.seq_word.specs.Seen.{DrawerView, IsAbove, last_word}
 use Rattle.turn_lock.specs.Entries.{IsPrefix, added}
 use Rattle.turn_lock.specs.Views.{PassView}
+use Rattle.locked_node.specs.declared.marks.Behind.{Behind}
 use Rattle.locked_node.specs.declared.marks.Mark.{Mark}
 use Rattle.locked_node.specs.declared.marks.Mark.TheVariants as M
 use Rattle.locked_node.specs.Asked.{WasAsked}
-use Rattle.locked_node.proofs.Told.{told_more}
-use Rattle.locked_node.specs.Node.{HasBeenTold, IsStopped, IsStoppedBare, NodeView, OnStop, node_marks, origin_of}
+use Rattle.locked_node.proofs.Told.{knows_more}
+use Rattle.locked_node.specs.Node.{IsStopped, IsStoppedBare, KnowsBehind, NodeView, OnStop, node_marks, origin_of}
 use Rattle.node_bearer.specs.Did.{BearerOf, Broke, Did, DidBy, GoesOn, IsDryFor, IsFor, IsNext, LeftOff, freed}
 use Rattle.node_bearer.specs.Marked.{HasEntry, HasJob, move_of}
 use Rattle.node_bearer.specs.Turns.{after_turn}
@@ -88,9 +89,9 @@ pub entry_longer : (marks rest : List Mark) (at : ℕ) (event : Event) (jobs : L
     → HasEntry (marks ++ rest) at event jobs informed
 entry_longer marks rest at event jobs front informed more h = record {
   entry = h.entry;
-  move = h.move;
-  here = get_longer marks rest at (M.Handled h.entry h.move) h.here;
-  knows = told_more front informed h.move more h.knows;
+  behind = h.behind;
+  here = get_longer marks rest at (M.Handled h.entry h.behind) h.here;
+  knows = knows_more front informed h.behind more h.knows;
   event_is = h.event_is;
   jobs_are = h.jobs_are;
 }
@@ -106,7 +107,7 @@ job_on a b at j event job on h = record { jobs = h.jobs; entry = entry_on a b at
 
 -- a job that draws, of an entry that a bearer has seen, is among what it sees later
 asked_longer : (before : ℕ) (marks rest : List Mark) → WasAsked before marks → WasAsked before (marks ++ rest)
-asked_longer before marks rest w = record { at = w.at; since = w.since; entry = w.entry; move = w.move; here = get_longer marks rest w.at (M.Handled w.entry w.move) w.here; place = w.place; job = w.job; has = w.has; draws = w.draws }
+asked_longer before marks rest w = record { at = w.at; since = w.since; entry = w.entry; behind = w.behind; here = get_longer marks rest w.at (M.Handled w.entry w.behind) w.here; place = w.place; job = w.job; has = w.has; draws = w.draws }
 
 pub asked_front : (before : ℕ) (front marks : List Mark) → IsPrefix front marks → WasAsked before front → WasAsked before marks
 asked_front before front marks p w = subst (WasAsked before) (sym p.is) (asked_longer before front p.rest w)
@@ -120,7 +121,7 @@ asked_by before marks at j event job informed since h draws = record {
   at = at;
   since = since;
   entry = h.entry.entry;
-  move = h.entry.move;
+  behind = h.entry.behind;
   here = h.entry.here;
   place = j;
   job = job;
@@ -196,18 +197,18 @@ module _ {F : Type 0} (k first : ℕ) (tasks : List Task) where
 
   module _ (b : BearerOf F) (old new : NodeView F) (seen : IsPrefix b.pass.seen (node_marks old)) where
     -- an event more was handled
-    pub did_handled : (task : Task) (rest : List Task) (event : Event) (e : Entry) (move at : ℕ) → IsFor event task → DidBy k first tasks (task ∷ rest) (after_turn b old)
-        → node_marks new ≡ node_marks old ++ M.Handled e move ∷ [] → at ≡ length (node_marks old) → e.event ≡ event → e.bearer ≡ k → e.number ≡ b.number + 1
-        → (move ≡ last_word (map move_of (node_marks old))) ⊎ IsBelow b.drawer move
+    pub did_handled : (task : Task) (rest : List Task) (event : Event) (e : Entry) (behind : Behind) (at : ℕ) → IsFor event task → DidBy k first tasks (task ∷ rest) (after_turn b old)
+        → node_marks new ≡ node_marks old ++ M.Handled e behind ∷ [] → at ≡ length (node_marks old) → e.event ≡ event → e.bearer ≡ k → e.number ≡ b.number + 1
+        → (behind.moved ≡ last_word (map move_of (node_marks old))) ⊎ IsAbove b.drawer behind.moved → IsAbove b.drawer behind.counter
         → DidBy k first tasks (write_tasks at 0 event e.jobs ++ rest) (after_turn (record b { number = b.number + 1 }) new)
-    did_handled task rest event e move at is h grew place same by numbered until =
+    did_handled task rest event e behind at is h grew place same by numbered until above =
         let ms = node_marks old in
         let mine = b.pass.own ++ added b.pass.seen ms in
-        let whole = ms ++ M.Handled e move ∷ [] in
+        let whole = ms ++ M.Handled e behind ∷ [] in
         let more : b.pass.own ++ added b.pass.seen whole ≡ mine ++ added ms whole =
-        ap (λ l. b.pass.own ++ l) (added_more b.pass.seen ms (M.Handled e move) seen) ∙ sym (append_assoc b.pass.own (added b.pass.seen ms) ((length ms, M.Handled e move) ∷ []))
-        ∙ ap (λ l. mine ++ l) (sym (added_one ms (M.Handled e move))) in
-        let done = did_acted k first tasks task rest mine ms ms b.lines.items b.number b.drawer event e move is h (front_of_itself ms) same by numbered until in
+        ap (λ l. b.pass.own ++ l) (added_more b.pass.seen ms (M.Handled e behind) seen) ∙ sym (append_assoc b.pass.own (added b.pass.seen ms) ((length ms, M.Handled e behind) ∷ []))
+        ∙ ap (λ l. mine ++ l) (sym (added_one ms (M.Handled e behind))) in
+        let done = did_acted k first tasks task rest mine ms ms b.lines.items b.number b.drawer event e behind is h (front_of_itself ms) same by numbered until above in
         subst (λ l. Did k first tasks (write_tasks at 0 event e.jobs ++ rest) (b.pass.own ++ added b.pass.seen l) l b.lines.items (b.number + 1) b.drawer) (sym grew)
         (subst (λ o. Did k first tasks (write_tasks at 0 event e.jobs ++ rest) o whole b.lines.items (b.number + 1) b.drawer) (sym more)
         (subst (λ n. Did k first tasks (write_tasks n 0 event e.jobs ++ rest) (mine ++ added ms whole) whole b.lines.items (b.number + 1) b.drawer) (sym place) done))
@@ -246,12 +247,12 @@ module _ {F : Type 0} (k first : ℕ) (tasks : List Task) where
     stopped_bare left h s = marked left None h s.marks (λ event e. absurd cc)
 
 -- where the entry stands
-pub entry_here : (ms ns : List Mark) (event : Event) (e : Entry) (move at : ℕ) (informed : List ℕ) → ns ≡ ms ++ M.Handled e move ∷ [] → at ≡ length ms → HasBeenTold informed move → e.event ≡ event
+pub entry_here : (ms ns : List Mark) (event : Event) (e : Entry) (behind : Behind) (at : ℕ) (informed : List ℕ) → ns ≡ ms ++ M.Handled e behind ∷ [] → at ≡ length ms → KnowsBehind informed behind → e.event ≡ event
     → HasEntry ns at event e.jobs informed
-entry_here ms ns event e move at informed grew place told same = record {
+entry_here ms ns event e behind at informed grew place told same = record {
   entry = e;
-  move = move;
-  here = ap (λ s. slice_get s at) grew ∙ ap (slice_get (ms ++ M.Handled e move ∷ [])) place ∙ get_last ms (M.Handled e move);
+  behind = behind;
+  here = ap (λ s. slice_get s at) grew ∙ ap (slice_get (ms ++ M.Handled e behind ∷ [])) place ∙ get_last ms (M.Handled e behind);
   knows = told;
   event_is = same;
   jobs_are = refl;

@@ -14,19 +14,20 @@ use Rattle.seq_word.specs.declared.looks.Look.{Look}
 use Rattle.seq_word.specs.declared.looks.Look.TheVariants as saw
 use Rattle.turn_lock.specs.Entries.{IsPrefix}
 use Rattle.turn_lock.specs.Views.{IsPassOf, TurnView}
+use Rattle.locked_node.specs.declared.marks.Behind.{Behind}
 use Rattle.locked_node.specs.declared.marks.Mark.{Mark}
 use Rattle.locked_node.specs.declared.marks.Mark.TheVariants as M
 use Rattle.locked_node.specs.declared.marks.Origin.{Origin}
 use Rattle.locked_node.specs.Node.{NodeView}
-use Rattle.node_bearer.specs.Marked.{AreShown, IsRiseAt, IsUntil, move_of, words_seen}
+use Rattle.node_bearer.specs.Marked.{AreShown, IsBehind, IsReachedAt, IsUntil, words_seen}
 use Rattle.node_bearer.specs.declared.bearer.Bearer.{Bearer}
 use Rattle.node_bearer.specs.declared.bearer.Drawn.{Drawn}
 use Rattle.node_bearer.specs.declared.bearer.Drawn.TheVariants as D
 
--- these marks are those of these entries, at their places, whatever moves they tell
+-- these marks are those of these entries, at their places, wherever the counter was behind them
 abbrev pub AreMarksAt : List (ℕ × Mark) → List Placed → Type 0
 AreMarksAt [] [] = ⊤
-AreMarksAt (x ∷ own) (p ∷ entries) = (move : ℕ) × (x ≡ (p.at, M.Handled p.entry move)) × AreMarksAt own entries
+AreMarksAt (x ∷ own) (p ∷ entries) = (behind : Behind) × (x ≡ (p.at, M.Handled p.entry behind)) × AreMarksAt own entries
 AreMarksAt _ _ = ⊥
 
 -- all of these tasks are to have an event from outside handled
@@ -48,12 +49,11 @@ AreOfLast entries [] = ⊤
 AreOfLast entries (handle event ∷ tasks) = AreHandles tasks
 AreOfLast entries (task ∷ tasks) = IsOfLast entries task × AreOfLast entries tasks
 
--- Where the counter was moved with this entry of an event from outside, the lines of entries before it draw words below where it was moved to;
--- and so are the words that had been drawn where the seat was split off.
+-- What the counter came to with this entry is above the words that had been drawn where the seat was split off, and not below what had been seen
+-- there; and where the entry is of an event from outside, above what the lines of entries before it draw.
 pub record IsMovedOver (marks : List Mark) (lines : List Sent) (d : DrawerView) (p : Placed) : Type 0 where
-  pub lines_are : (word : ℕ) → is_outside p.entry.event ≡ true → IsRiseAt (map move_of marks) p.at word
-      → All (IsUntil marks p.at word) lines
-  pub noted : (word : ℕ) → is_outside p.entry.event ≡ true → IsRiseAt (map move_of marks) p.at word → All (λ x. x < word) d.noted
+  pub lines_are : (word : ℕ) → is_outside p.entry.event ≡ true → IsReachedAt marks p.at word → All (IsUntil marks p.at word) lines
+  pub before : (word : ℕ) → IsReachedAt marks p.at word → IsBehind d word
 
 -- With these tasks bearer k, whose last number before was `first`, made these entries of its own and these lines, and drew the words that
 -- the lines show; these tasks are left.

@@ -7,6 +7,7 @@ use Rattle.std.proofs.lemmas.Bool.Decides.{nat_tests}
 use Rattle.mesh_types.specs.declared.events.Event.{Event}
 use Rattle.mesh_types.specs.declared.history.Entry.{Entry}
 use Rattle.run_definitions.specs.Order.{Placed, of_bearer}
+use Rattle.locked_node.specs.declared.marks.Behind.{Behind}
 use Rattle.locked_node.specs.declared.marks.Mark.{Mark}
 use Rattle.locked_node.specs.declared.marks.Mark.TheVariants as M
 use Rattle.node_bearer.specs.Did.{AreMarksAt}
@@ -29,11 +30,11 @@ pub kept_no : {A : Type 0} (p : A → Bool) (x : A) (xs : List A) → p x ≡ fa
 kept_no p x xs e = rw e refl
 
 -- the test for an entry's mark
-yes_at : (k at : ℕ) (e : Entry) (move : ℕ) (x : ℕ × Mark) → x ≡ (at, M.Handled e move) → e.bearer ≡ k → is_by k x ≡ true
-yes_at k at e move x is by = ap (is_by k) is ∙ is_yes e.bearer k by
+yes_at : (k at : ℕ) (e : Entry) (behind : Behind) (x : ℕ × Mark) → x ≡ (at, M.Handled e behind) → e.bearer ≡ k → is_by k x ≡ true
+yes_at k at e behind x is by = ap (is_by k) is ∙ is_yes e.bearer k by
 
-no_at : (j at : ℕ) (e : Entry) (move : ℕ) (x : ℕ × Mark) → x ≡ (at, M.Handled e move) → e.bearer ≢ j → is_by j x ≡ false
-no_at j at e move x is other = ap (is_by j) is ∙ is_no e.bearer j other
+no_at : (j at : ℕ) (e : Entry) (behind : Behind) (x : ℕ × Mark) → x ≡ (at, M.Handled e behind) → e.bearer ≢ j → is_by j x ≡ false
+no_at j at e behind x is other = ap (is_by j) is ∙ is_no e.bearer j other
 
 pub keep_mine : (k : ℕ) (own : List (ℕ × Mark)) (ps : List Placed) → AreMarksAt own ps → All (λ p. p.entry.bearer ≡ k) ps → filter (is_by k) own ≡ own
 keep_mine k [] ps are h = refl
@@ -54,8 +55,8 @@ pub stop_dropped : (k at : ℕ) (hand : Option Event) (xs : List (ℕ × Mark)) 
 stop_dropped k at hand xs = filter-append (is_by k) xs ((at, M.Stopped hand) ∷ []) ∙ append-nil (filter (is_by k) xs)
 
 -- with one item more
-placed_here : (p : Placed) (move : ℕ) (own : List (ℕ × Mark)) → placed_of ((p.at, M.Handled p.entry move) ∷ own) ≡ p ∷ placed_of own
-placed_here p move own = refl
+placed_here : (p : Placed) (behind : Behind) (own : List (ℕ × Mark)) → placed_of ((p.at, M.Handled p.entry behind) ∷ own) ≡ p ∷ placed_of own
+placed_here p behind own = refl
 
 pub placed_marks : (own : List (ℕ × Mark)) (ps : List Placed) → AreMarksAt own ps → placed_of own ≡ ps
 placed_marks [] [] are = refl
@@ -68,14 +69,14 @@ placed_marks (x ∷ own) (p ∷ ps) are =
 pub of_bearer_placed : (k : ℕ) (xs : List (ℕ × Mark)) → of_bearer k (placed_of xs) ≡ placed_of (filter (is_by k) xs)
 of_bearer_placed k [] = refl
 of_bearer_placed k ((at, M.Stopped hand) ∷ xs) = of_bearer_placed k xs
-of_bearer_placed k ((at, M.Handled e move) ∷ xs) = by_test (of_bearer_placed k xs) (e.bearer == k) refl where
-  by_test : of_bearer k (placed_of xs) ≡ placed_of (filter (is_by k) xs) → (b : Bool) → (e.bearer == k) ≡ b → of_bearer k (placed_of ((at, M.Handled e move) ∷ xs)) ≡ placed_of (filter (is_by k) ((at, M.Handled e move) ∷ xs))
+of_bearer_placed k ((at, M.Handled e behind) ∷ xs) = by_test (of_bearer_placed k xs) (e.bearer == k) refl where
+  by_test : of_bearer k (placed_of xs) ≡ placed_of (filter (is_by k) xs) → (b : Bool) → (e.bearer == k) ≡ b → of_bearer k (placed_of ((at, M.Handled e behind) ∷ xs)) ≡ placed_of (filter (is_by k) ((at, M.Handled e behind) ∷ xs))
   by_test rest true here =
       kept_yes (λ (p : Placed). p.entry.bearer == k) (record { at = at; entry = e }) (placed_of xs) here ∙ ap (λ l. record { at = at; entry = e } ∷ l) rest
-      ∙ sym (ap placed_of (kept_yes (is_by k) (at, M.Handled e move) xs here))
+      ∙ sym (ap placed_of (kept_yes (is_by k) (at, M.Handled e behind) xs here))
   by_test rest false other =
       kept_no (λ (p : Placed). p.entry.bearer == k) (record { at = at; entry = e }) (placed_of xs) other ∙ rest
-      ∙ sym (ap placed_of (kept_no (is_by k) (at, M.Handled e move) xs other))
+      ∙ sym (ap placed_of (kept_no (is_by k) (at, M.Handled e behind) xs other))
 
 pub entries_of_bearer : (k : ℕ) (all : List (ℕ × Mark)) (ps : List Placed) → AreMarksAt (filter (is_by k) all) ps → of_bearer k (placed_of all) ≡ ps
 entries_of_bearer k all ps are = of_bearer_placed k all ∙ placed_marks (filter (is_by k) all) ps are

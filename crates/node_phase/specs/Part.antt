@@ -14,12 +14,12 @@ use Rattle.node_phase.specs.declared.bearers.Done.{Done}
 
 -- whether an entry of the lock is an entry of bearer k
 abbrev pub is_of : ℕ → Mark → Bool
-is_of k (M.Handled e move) = e.bearer == k
+is_of k (M.Handled e behind) = e.bearer == k
 is_of k (M.Stopped hand) = false
 
 -- the entries of the history among those of the lock, with their places
 abbrev pub placed_at : ℕ → Mark → Option Placed
-placed_at at (M.Handled e move) = Some (record { at = at; entry = e })
+placed_at at (M.Handled e behind) = Some (record { at = at; entry = e })
 placed_at at (M.Stopped hand) = None
 
 abbrev pub placed_of : List (ℕ × Mark) → List Placed

@@ -9,5 +9,5 @@ returns-clause-next g c = λ phases rest old new d e events counts dones h w mem
     next_in old new d e events counts dones w memory few none phases h some event hand out rest
 
 pub returns-clause-hand : goal.returns-clause-hand
-returns-clause-hand g c = λ phases rest old new d e events counts dones sends h w memory few none some event hand out.
-    in_hand old new d e events counts dones w memory few none phases sends h some event hand out rest
+returns-clause-hand g c = λ phases rest old new d e events counts ends dones sends h w memory few none some event hand out.
+    in_hand old new d e events counts dones w memory few none phases sends ends h some event hand out rest

@@ -4,7 +4,7 @@ use Rattle.machine_contract.specs.Refused.{IsStartCause}
 use Rattle.mesh_node.specs.Given.{Stood}
 use Rattle.report_writer.specs.Writing.{view_of}
 use Rattle.live_node.specs.Lived.{streams_at}
-use Rattle.live_node.proofs.Opening.{never_reset, reset_over, same_streams}
+use Rattle.live_node.proofs.Opening.{never_reset, nothing_asked, reset_over, same_streams}
 use Rattle.live_node.proofs.running.run_machine.Goals as goal
 
 pub returns-clause-ended : goal.returns-clause-ended
@@ -30,3 +30,7 @@ returns-in-Err-WasReset-clause-ended g c =
     (Stood g.M.Machine.view (g.M.Machine.stands (found_of (chip over.flash))) chip flash) cause.0 c.start.ensures.frame cause.2 cause.1 (c.start.ensures.reset cause.0) c.start.ensures.writes
     (same_streams g.S.Source.left g.S.Source.faults g.S.ClockedSource.time g.E.Sink.held g.E.Sink.pieces g.E.Sink.faults over.streams told.streams streams.0 streams.1)
     told.status (g.K.Sink.faults over.streams.sink) (g.K.Sink.faults told.streams.sink) c.tell_reset.ensures.told))
+
+-- memory ran out before the flash was asked for anything
+pub returns-in_default-clause-ended : goal.returns-in_default-clause-ended
+returns-in_default-clause-ended g c = rw c.unopened.ensures.value (inl (refl, nothing_asked _ _ _ _, refl))

@@ -9,6 +9,7 @@ use Rattle.mesh_node.proofs.Asking.{due_node}
 use Rattle.mesh_node.proofs.Following.{same_more}
 use Rattle.mesh_node.proofs.Phasing.{one_item}
 use Rattle.mesh_node.proofs.Telling.{first_goes, goes_more, on_err, short_before, short_in, went_last, went_none}
+use Rattle.mesh_node.proofs.Timing.{uncounted}
 use Rattle.mesh_node.proofs.alone.go_on_alone.Goals as goal
 
 pub loop-phase-init : goal.loop-phase-init
@@ -23,7 +24,7 @@ loop-phase-init g c =
       usable = c.requires.usable;
       known = c.known.ensures.known;
       under = first_goes (IsDueSince g.M.Machine.role g.M.Machine.quiet (g.F.Flash.chip c.args.life.node.start)) g.S.PhaseSource.steps g.T.PhaseSink.steps c.args.source.now c.args.sink.now life.bearers life.node life.seats.drawer life.seats.counts.items
-          c.requires.begins c.requires.between.taken c.requires.between.live c.requires.drawn c.requires.counts;
+          c.requires.begins (uncounted g.M.Machine.role g.M.Machine.image g.F.Flash.chip life.node c.known.ensures.known c.requires.begins) c.requires.between.taken c.requires.between.live c.requires.drawn c.requires.counts;
     }
 
 pub returns-in-Err-clause-went : goal.returns-in-Err-clause-went

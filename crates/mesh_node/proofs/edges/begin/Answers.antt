@@ -1,13 +1,9 @@
-use Rattle.std.proofs.Common.{subst, sym, arith}
-use Rattle.locked_node.specs.Asked.{AreAsked}
+use Rattle.std.proofs.Common.{◌∙◌, ap}
+use Rattle.store_definitions.specs.Config.{config_of}
 use Rattle.mesh_node.proofs.edges.begin.Goals as goal
 
--- it opens with no entry and no refill
-pub new-requires-clause-asked : goal.new-requires-clause-asked
-new-requires-clause-asked g c κs lives =
+-- it opens at the mark that the records say
+pub new-requires-clause-published : goal.new-requires-clause-published
+new-requires-clause-published g c κs lives = λ over read.
     let s = c.requires.started in
-    subst (λ es. AreAsked es (g.M.Machine.view c.args.beginning.started.machine).fills) (sym s.entries) s.fills
-
--- and none was taken
-pub new-requires-clause-taken : goal.new-requires-clause-taken
-new-requires-clause-taken g c κs lives = let none = c.requires.started.taken in omega (arith, none)
+    s.published ∙ ap (λ o. (config_of o).mark) (c.one_list_is_recovered.ensures.one_list (g.F.Flash.chip c.args.beginning.start).now s.over over s.read read)

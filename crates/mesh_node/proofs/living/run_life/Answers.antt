@@ -1,11 +1,10 @@
-use Rattle.std.proofs.Common.{refl, false, List, ◌+◌, ◌≤◌, ◌≢◌, None, ◌≡◌, ◌∙◌, Some, map, ap, sym, subst, arith}
+use Rattle.std.proofs.Common.{refl, false, List, ◌+◌, ◌≤◌, ◌≢◌, None, ◌≡◌, ◌∙◌, Some, map, ap, sym, subst}
 use Rattle.std.specs.Prelude.{All, IfSome}
 use Rattle.flash_model.specs.Chip.{Setting}
 use Rattle.mesh_types.specs.declared.report.Opened.TheVariants as W
 use Rattle.store_definitions.specs.Config.{config_of}
 use Rattle.life_laws.specs.declared.plan.LifeLog.{LifeLog}
 use Rattle.run_definitions.specs.Order.{phases_of}
-use Rattle.locked_node.specs.Asked.{AreAsked}
 use Rattle.mesh_node.specs.Going.{IsOver}
 use Rattle.mesh_node.specs.Lives.{cut_calls}
 use Rattle.life_laws.specs.Plan.{IsStep, steps_of}
@@ -31,15 +30,11 @@ new-requires-clause-later g c κs lives =
     let kept = c.requires.kept in
     record { faults = kept.later; steady = kept.steady; began = ap (λ (s : Setting). s.faults) kept.setting; cycles = ap (λ (s : Setting). s.cycles) kept.setting; past = kept.past }
 
--- it opens with no entry and no refill
-pub new-requires-clause-asked : goal.new-requires-clause-asked
-new-requires-clause-asked g c κs lives =
+-- it opens at the mark that the records say
+pub new-requires-clause-published : goal.new-requires-clause-published
+new-requires-clause-published g c κs lives = λ over read.
     let s = c.requires.started in
-    subst (λ es. AreAsked es (g.M.Machine.view c.args.started.machine).fills) (sym s.entries) s.fills
-
--- and none was taken
-pub new-requires-clause-taken : goal.new-requires-clause-taken
-new-requires-clause-taken g c κs lives = let none = c.requires.started.taken in omega (arith, none)
+    s.published ∙ ap (λ o. (config_of o).mark) (c.one_list_is_recovered.ensures.one_list (g.F.Flash.chip c.args.start).now s.over over s.read read)
 
 -- the elements of the node are those that the records say
 pub do_steps-requires-clause-steps : goal.do_steps-requires-clause-steps
@@ -81,9 +76,9 @@ returns g c =
     let given : node.stops ≡ 0 → HasGiven plan (chip node.flash).setting.arm =
     λ live. given_whole items before (chip node.flash).setting.arm c.requires.first held (subst (λ xs. HasGiven (steps_of xs) (chip node.flash).setting.arm) c.requires.behind (did.given live)) in
     let calls = subst (λ k. IfSome (cut_calls c.end_of-end.result) (λ n. n ≡ k)) (c.changes.ensures ∙ ap (λ f. (chip f).changes) c.into_parts-machine.ensures.flash) c.end_of-end.ensures.calls in
-    let placed : (over : List StoreRecord) → IsRecovered (chip start).now over → IfSome (chip node.flash).setting.arm (WasGiven g.M.Machine.view (g.M.Machine.stands (found_of (chip start))) chip over node.machine plan) = λ over read. given_right g.M.Machine.view (g.M.Machine.stands (found_of (chip start))) chip over node.machine items before (chip node.flash).setting.arm c.requires.armed
-    (subst (λ xs. IsSameOrPlaced g.M.Machine.view (g.M.Machine.stands (found_of (chip start))) chip over node.machine (steps_of xs) before (chip node.flash).setting.arm) c.requires.behind
-    (subst (λ n. IsSameOrPlaced g.M.Machine.view (g.M.Machine.stands (found_of (chip n.start))) chip over node.machine (steps_of c.args.steps.now) (chip n.flash).setting.arm (chip node.flash).setting.arm) c.in_ok-opened.ensures.value
+    let placed : (over : List StoreRecord) → IsRecovered (chip start).now over → IfSome (chip node.flash).setting.arm (WasGiven g.M.Machine.view (g.M.Machine.stands (found_of (chip start))) chip over node.machine lines plan) = λ over read. given_right g.M.Machine.view (g.M.Machine.stands (found_of (chip start))) chip over node.machine lines items before (chip node.flash).setting.arm c.requires.armed
+    (subst (λ xs. IsSameOrPlaced g.M.Machine.view (g.M.Machine.stands (found_of (chip start))) chip over node.machine lines (steps_of xs) before (chip node.flash).setting.arm) c.requires.behind
+    (subst (λ n. IsSameOrPlaced g.M.Machine.view (g.M.Machine.stands (found_of (chip n.start))) chip over node.machine lines (steps_of c.args.steps.now) (chip n.flash).setting.arm (chip node.flash).setting.arm) c.in_ok-opened.ensures.value
     (did.placed over (subst (λ n. IsRecovered (chip n.start).now over) (sym c.in_ok-opened.ensures.value) read)))) in
     let close = c.close-drawn.ensures in
     let words = c.do_steps.new.seats in

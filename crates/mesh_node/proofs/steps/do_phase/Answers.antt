@@ -1,6 +1,8 @@
 use Rattle.std.proofs.Common.{◌≡◌, ◌∙◌, ◌++◌, ◌∷◌, [], length, map, sym, ap, subst}
 use Rattle.std.proofs.lemmas.List.{length-map}
 use Rattle.mesh_node.specs.Going.{AreTold, IsGoing, IsOver}
+use Rattle.mesh_node.specs.Given.{BeginWith}
+use Rattle.mesh_node.proofs.Growing.{begin_both}
 use Rattle.mesh_node.proofs.Stepping.{length_both}
 use Rattle.mesh_node.proofs.steps.do_phase.Goals as goal
 
@@ -24,3 +26,8 @@ returns-clause-many g c =
     let more = c.in_ok-done.done.log.sends.items in
     let same : length (map (λ v. v.items) old) ≡ length (map (λ v. v.items) more) = length-map old (λ v. v.items) ∙ c.requires.sends ∙ sym c.in_ok-done.ensures.bearers ∙ sym (length-map more (λ v. v.items)) in
     (c.in_ok-done.ensures.many, sym (length-map c.add.new.self.sends.items (λ v. v.items)) ∙ ap length c.in_ok-add.ensures.sends ∙ length_both (map (λ v. v.items) old) (map (λ v. v.items) more) same ∙ length-map old (λ v. v.items))
+
+pub returns-clause-longer : goal.returns-clause-longer
+returns-clause-longer g c =
+    let old = map (λ v. v.items) c.args.log.now.sends.items in
+    subst (BeginWith old) (sym c.in_ok-add.ensures.sends) (begin_both old (map (λ v. v.items) c.in_ok-done.done.log.sends.items))

@@ -7,6 +7,7 @@ use Rattle.mesh_node.specs.Going.{AreTold, IsBetween, IsGoing, IsOver}
 use Rattle.life_laws.specs.Plan.{IsStep, step_of}
 use Rattle.mesh_node.specs.Steps.{IsArmedBy}
 use Rattle.mesh_node.specs.Given.{IsUnfilled}
+use Rattle.mesh_node.proofs.Growing.{begin_same}
 use Rattle.mesh_node.proofs.Stepping.{going_with, other_flash, told_with, between_with}
 use Rattle.mesh_node.proofs.Unfilled.{unfilled_same}
 use Rattle.mesh_node.proofs.steps.do_step.Goals as goal
@@ -84,3 +85,9 @@ returns-in-Arm-clause-saved g c = c.arm.ensures.saved
 
 pub returns-in-Phase-clause-saved : goal.returns-in-Phase-clause-saved
 returns-in-Phase-clause-saved g c = c.do_phase.ensures.saved
+
+pub returns-in-Arm-clause-longer : goal.returns-in-Arm-clause-longer
+returns-in-Arm-clause-longer g c = begin_same (map (λ v. v.items) c.args.log.now.sends.items)
+
+pub returns-in-Phase-clause-longer : goal.returns-in-Phase-clause-longer
+returns-in-Phase-clause-longer g c = c.do_phase.ensures.longer

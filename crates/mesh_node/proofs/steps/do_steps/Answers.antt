@@ -26,7 +26,7 @@ loop-step-init g c =
       same = record { start = refl; which = refl; elements = refl };
       counts = ap length no_counts ∙ length-replicate c.args.bearers 0;
       sends = sym (length-map sends (λ v. v.items)) ∙ ap length no_sends ∙ length-replicate c.args.bearers [];
-      going = going_first node c.args.seats.now.drawer c.args.bearers (map (λ v. v.items) sends) counts c.requires.begins c.requires.between.live c.requires.drawn no_sends no_counts;
+      going = going_first node c.args.seats.now.drawer c.args.bearers (map (λ v. v.items) sends) counts c.requires.begins c.requires.uncounted c.requires.between.live c.requires.drawn no_sends no_counts;
       told = record { entries_are = c.requires.begins ∙ sym c.in_ok-log.ensures.entries; taken = c.requires.between.taken };
       order = inl refl;
       saved = refl;
@@ -81,8 +81,9 @@ loop-step-preserved g c =
       held = λ some. held_more x old new did.arm (inv.held some);
       given = subst (λ ss. HasGiven (steps_of ss) new.setting.arm) (sym (taken steps i x lt is)) (given_more (take i steps) x old new did.arm inv.given);
       placed = λ over read.
-          placed_held g.M.Machine.view g.M.Machine.stands g.F.Flash.chip over steps i x lt is l.node c.known.ensures.stands inv.going.handled c.one_list_is_recovered.ensures.one_list c.args.node.start inv.same.start read first new (inv.placed over read) did.arm next.machine
-          (did.unfilled (none_in_hand l.node c.known.ensures.known inv.between.live));
+          placed_held g.M.Machine.view g.M.Machine.stands g.F.Flash.chip over steps i l.node l.seats.drawer (map (λ v. v.items) l.log.sends.items) l.seats.counts.items inv.going
+          x lt is c.known.ensures.stands c.one_list_is_recovered.ensures.one_list c.args.node.start inv.same.start read first new (inv.placed over read) did.arm next.machine
+          (did.unfilled (none_in_hand l.node c.known.ensures.known inv.between.live)) (map (λ v. v.items) c.do_step.new.log.sends.items) did.longer;
       may = may_more x (drop (i + 1) steps) old new (subst (λ ss. MayFollow ss old.setting.arm) (dropped steps i x lt is) inv.may) did.arm;
     }
 
@@ -101,9 +102,10 @@ pub returns-then-closed-clause-placed : goal.returns-then-closed-clause-placed
 returns-then-closed-clause-placed g c = λ over read.
     let l = c.loop-step in
     let chip = g.F.Flash.chip in
-    placed_held g.M.Machine.view g.M.Machine.stands chip over c.args.steps.now l.step-index c.step-item.result c.loop-step-test.true c.step-item.is l.node c.known.ensures.stands l.invariant.going.handled
-    c.one_list_is_recovered.ensures.one_list c.args.node.start l.invariant.same.start read (chip c.args.node.flash).setting.arm (chip c.in_ok-next.next.flash) (l.invariant.placed over read) c.in_ok-next.ensures.arm
-    c.in_ok-next.next.machine (c.in_ok-next.ensures.unfilled (none_in_hand l.node c.known.ensures.known l.invariant.between.live))
+    placed_held g.M.Machine.view g.M.Machine.stands chip over c.args.steps.now l.step-index l.node l.seats.drawer (map (λ v. v.items) l.log.sends.items) l.seats.counts.items l.invariant.going
+    c.step-item.result c.loop-step-test.true c.step-item.is c.known.ensures.stands c.one_list_is_recovered.ensures.one_list c.args.node.start l.invariant.same.start read
+    (chip c.args.node.flash).setting.arm (chip c.in_ok-next.next.flash) (l.invariant.placed over read) c.in_ok-next.ensures.arm c.in_ok-next.next.machine
+    (c.in_ok-next.ensures.unfilled (none_in_hand l.node c.known.ensures.known l.invariant.between.live)) (map (λ v. v.items) c.do_step.new.log.sends.items) c.in_ok-next.ensures.longer
 
 pub returns-clause-parts : goal.returns-clause-parts
 returns-clause-parts g c = c.loop-step.invariant.between.parts

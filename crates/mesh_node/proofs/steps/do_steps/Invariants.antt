@@ -24,6 +24,6 @@ invariant-loop-step g l = record {
   saved : (g.F.Flash.chip l.node.flash).setting.saved ≡ (g.F.Flash.chip l.fn.node.flash).setting.saved;
   held : (g.F.Flash.chip l.fn.node.flash).setting.arm ≢ None → (g.F.Flash.chip l.node.flash).setting.arm ≢ None;
   given : HasGiven (steps_of (take l.step-index l.steps)) (g.F.Flash.chip l.node.flash).setting.arm;
-  placed : (over : List StoreRecord) → IsRecovered (g.F.Flash.chip l.fn.node.start).now over → IsSameOrPlaced g.M.Machine.view (g.M.Machine.stands (found_of (g.F.Flash.chip l.fn.node.start))) g.F.Flash.chip over l.node.machine (steps_of l.steps) (g.F.Flash.chip l.fn.node.flash).setting.arm (g.F.Flash.chip l.node.flash).setting.arm;
+  placed : (over : List StoreRecord) → IsRecovered (g.F.Flash.chip l.fn.node.start).now over → IsSameOrPlaced g.M.Machine.view (g.M.Machine.stands (found_of (g.F.Flash.chip l.fn.node.start))) g.F.Flash.chip over l.node.machine (map (λ v. v.items) l.log.sends.items) (steps_of l.steps) (g.F.Flash.chip l.fn.node.flash).setting.arm (g.F.Flash.chip l.node.flash).setting.arm;
   may : MayFollow (drop l.step-index l.steps) (g.F.Flash.chip l.node.flash).setting.arm;
 }
